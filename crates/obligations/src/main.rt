@@ -1,9 +1,9 @@
-use trades::Stop;
-use trades::StopDisplay;
-use trades::StopFromIo;
+use blotter::Stop;
+use blotter::StopDisplay;
+use blotter::StopFromIo;
 
 fn main(rt: LibcRuntime) -> Result<(), Stop> {
-    let done = trades::run(&rt);
+    let done = blotter::run(&rt);
     if let Err(stop) = &done {
         eprintln!(rt, "obligations: {stop}")?;
     }

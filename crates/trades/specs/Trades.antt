@@ -1,10 +1,9 @@
--- What a trade is worth, what is wrong with the figures of one, and how it is printed.
+-- What a trade is worth, and what is wrong with the figures of one.
 use mathlib.Core.Bool.{Bool, cond, not}
-use mathlib.Core.List.{List, _++_}
+use mathlib.Core.List.{List}
 use Prim.Native.Nat.{ℕ}
 use lib.Chars.{codes}
 use lib.Dec.{eqb, ltb}
-use Rattle.std.specs.Written.{decimal}
 use Rattle.std.specs.declared.option.Option.{Option}
 use Rattle.std.specs.declared.option.Option.the-variants.{Some, None}
 use Rattle.std.specs.declared.result.Result.{Result}
@@ -24,6 +23,12 @@ abbrev pub market : Kind → Meaning
 market Price = price
 market Rate = rate
 market Interbank = interbank
+
+-- the word for it
+abbrev pub name : Kind → List ℕ
+name Price = codes "price"
+name Rate = codes "rate"
+name Interbank = codes "interbank"
 
 abbrev pub value : Trade → ℕ
 value t = market (t .kind) .value (t .lots) (t .quote) (t .days)
@@ -46,18 +51,3 @@ told f = record { kind = f .kind; buyer = f .buyer; seller = f .seller; paper = 
 abbrev pub checked : Option Flaw → Trade → Result Trade Flaw
 checked None t = Ok t
 checked (Some f) t = Err f
-
-abbrev pub name : Kind → List ℕ
-name Price = codes "price"
-name Rate = codes "rate"
-name Interbank = codes "interbank"
-
--- what is printed of a trade after its number
-abbrev pub described : Trade → List ℕ
-described t =
-    name (t .kind) ++ (codes " buyer " ++ (decimal (t .buyer) ++ (codes " seller " ++ (decimal (t .seller) ++ (codes " paper " ++ (decimal (t .paper)
-    ++ (codes " lots " ++ (decimal (t .lots) ++ (codes " quote " ++ (decimal (t .quote) ++ (codes " days " ++ decimal (t .days))))))))))))
-
--- the line that is printed of the trade of that number
-abbrev pub printed : (number : ℕ) → Trade → List ℕ
-printed number t = codes "trade " ++ (decimal number ++ (codes ": " ++ (described t ++ (codes " value " ++ decimal (value t)))))

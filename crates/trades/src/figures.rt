@@ -1,6 +1,6 @@
 //! The checks on a trade's figures, and its value.
 ghost use mathlib.Core.Path.{_≡_};
-ghost use Rattle.trades.specs.Trades.{market, value, flaw, told, checked};
+ghost use Rattle.trades.specs.Trades.{market, name, value, flaw, told, checked};
 use super::trade::Field;
 use super::trade::Figures;
 use super::trade::Flaw;
@@ -15,6 +15,17 @@ use market::Rate;
 use market::RateMarket;
 
 impl Kind {
+    // The word by which a line of text names the market.
+    pub fn name(self) -> &'static str
+        ensures { λ r. ⌜ now r ≡ name self ⌝ }
+    {
+        match self {
+            Kind::Price => "price",
+            Kind::Rate => "rate",
+            Kind::Interbank => "interbank",
+        }
+    }
+
     fn highest(self) -> u32
         ensures { λ r. ⌜ r ≡ market self .highest ⌝ }
     {

@@ -18,13 +18,6 @@ pub struct Trade {
     pub days: u32,
 }
 
-// A trade and its number in the input, from 1.
-#[derive(Clone, Copy, PartialEq, Eq, Debug)]
-pub struct Numbered {
-    pub number: u64,
-    pub trade: Trade,
-}
-
 // The figures of a trade as they are written, in range or not.
 #[derive(Clone, Copy)]
 pub struct Figures {

@@ -1,9 +1,9 @@
 //! A trade from the words of a line.
-use super::trade::Field;
-use super::trade::Figures;
-use super::trade::Flaw;
-use super::trade::Kind;
-use super::trade::Trade;
+use trades::Field;
+use trades::Figures;
+use trades::Flaw;
+use trades::Kind;
+use trades::Trade;
 
 fn number(word: Option<&str>, field: Field) -> Result<u32, Flaw> {
     let Some(word) = word else {

@@ -1,9 +1,9 @@
 //! The program: trades in, a line for each out.
 use super::reading::read;
-use super::shown::FlawDisplay;
+use super::shown::Numbered;
 use super::shown::NumberedDisplay;
-use super::trade::Flaw;
-use super::trade::Numbered;
+use super::shown::Told;
+use super::shown::ToldDisplay;
 use std::alloc::AllocError;
 use std::env;
 use std::fmt;
@@ -13,6 +13,7 @@ use std::io::BufWriter;
 use std::io::Read;
 use std::io::Write;
 use std::str::from_utf8;
+use trades::Flaw;
 
 // Why a run ends before its input does.
 #[derive(Drop)]
@@ -28,7 +29,7 @@ pub impl fmt::Display for Stop as StopDisplay {
         match self {
             Stop::Io(e) => write!(f, "{e}"),
             Stop::Memory => f.write_str("no memory"),
-            Stop::Line(n, flaw) => write!(f, "line {n}: {flaw}"),
+            Stop::Line(n, flaw) => write!(f, "line {n}: {}", Told(*flaw)),
         }
     }
 }
