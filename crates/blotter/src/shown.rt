@@ -1,9 +1,8 @@
-//! How a trade and a flaw are printed.
+//! The lines that are printed, byte for byte.
 ghost use Rattle.std.specs.declared.option.Option.the-variants.{Some};
-ghost use Rattle.blotter.specs.Printed.{terms, printed};
+ghost use Rattle.blotter.specs.Printed.{terms, trade-line, cause, passed-line, lots-line, cash-line};
+use lines::Fault;
 use std::fmt;
-use trades::Field;
-use trades::Flaw;
 use trades::Trade;
 
 // The terms of a trade, as a line has them.
@@ -39,7 +38,7 @@ pub struct Numbered {
 }
 
 pub impl fmt::Display for Numbered as NumberedDisplay {
-    ghost shown = { λ n. Some (printed (n .number) (n .trade)) };
+    ghost shown = { λ n. Some (trade-line (n .number) (n .trade)) };
 
     fn fmt<W: fmt::Write>(&self, f: &mut fmt::Formatter<W>) -> fmt::Result {
         let number = self.number;
@@ -49,36 +48,72 @@ pub impl fmt::Display for Numbered as NumberedDisplay {
     }
 }
 
-fn name(field: Field) -> &'static str {
-    match field {
-        Field::Market => "market",
-        Field::Buyer => "buyer",
-        Field::Seller => "seller",
-        Field::Paper => "paper",
-        Field::Lots => "lots",
-        Field::Quote => "quote",
-        Field::Days => "days",
+// Why the lines do not allow a trade.
+#[derive(Clone, Copy)]
+pub struct Cause(pub Fault);
+
+pub impl fmt::Display for Cause as CauseDisplay {
+    ghost shown = { λ c. Some (cause (c .0)) };
+
+    fn fmt<W: fmt::Write>(&self, f: &mut fmt::Formatter<W>) -> fmt::Result {
+        match self.0 {
+            Fault::OwnHouse => f.write_str("own house"),
+            Fault::Blocked { by } => write!(f, "blocked by {by}"),
+            Fault::Short {
+                granter,
+                counterparty,
+                pesos,
+            } => write!(f, "short {granter} {counterparty} {pesos}"),
+        }
     }
 }
 
-// A flaw of a line, told to a person.
+// A trade that is passed over.
 #[derive(Clone, Copy)]
-pub struct Told(pub Flaw);
+pub struct Passed {
+    pub numbered: Numbered,
+    pub fault: Fault,
+}
 
-pub impl fmt::Display for Told as ToldDisplay {
+pub impl fmt::Display for Passed as PassedDisplay {
+    ghost shown = { λ p. Some (passed-line (p .numbered .number) (p .numbered .trade) (p .fault)) };
+
     fn fmt<W: fmt::Write>(&self, f: &mut fmt::Formatter<W>) -> fmt::Result {
-        match self.0 {
-            Flaw::Missing(field) => write!(f, "{} is missing", name(field)),
-            Flaw::NoMarket => f.write_str("market is none of price, rate, interbank"),
-            Flaw::NoNumber(field) => write!(f, "{} is not a number below 2^32", name(field)),
-            Flaw::Surplus => f.write_str("a word too many"),
-            Flaw::NotText => f.write_str("not UTF-8 text"),
-            Flaw::NoHouse(field) => write!(f, "{} is not a house from 0 to 15", name(field)),
-            Flaw::OneHouse => f.write_str("buyer and seller are one house"),
-            Flaw::NoPaper => f.write_str("paper is not from 0 to 7"),
-            Flaw::Lots => f.write_str("lots are not from 1 to 1000000"),
-            Flaw::Quote(highest) => write!(f, "quote is not from 1 to {highest}"),
-            Flaw::Days => f.write_str("days are not from 0 to 365"),
-        }
+        let numbered = self.numbered;
+        let cause = Cause(self.fault);
+        write!(f, "{numbered} passed over: {cause}")
+    }
+}
+
+// Lots that a house has to receive, or, below 0, to deliver.
+#[derive(Clone, Copy)]
+pub struct LotsOwed {
+    pub house: u8,
+    pub paper: u8,
+    pub lots: i64,
+}
+
+pub impl fmt::Display for LotsOwed as LotsOwedDisplay {
+    ghost shown = { λ o. Some (lots-line (o .house) (o .paper) (o .lots)) };
+
+    fn fmt<W: fmt::Write>(&self, f: &mut fmt::Formatter<W>) -> fmt::Result {
+        let LotsOwed { house, paper, lots } = *self;
+        write!(f, "house {house} paper {paper} lots {lots}")
+    }
+}
+
+// Pesos that a house has to receive, or, below 0, to pay.
+#[derive(Clone, Copy)]
+pub struct CashOwed {
+    pub house: u8,
+    pub pesos: i64,
+}
+
+pub impl fmt::Display for CashOwed as CashOwedDisplay {
+    ghost shown = { λ o. Some (cash-line (o .house) (o .pesos)) };
+
+    fn fmt<W: fmt::Write>(&self, f: &mut fmt::Formatter<W>) -> fmt::Result {
+        let CashOwed { house, pesos } = *self;
+        write!(f, "house {house} cash {pesos}")
     }
 }

@@ -1,9 +1,9 @@
-use blotter::Stop;
-use blotter::StopDisplay;
-use blotter::StopFromIo;
+use clerk::Stop;
+use clerk::StopDisplay;
+use clerk::StopFromIo;
 
 fn main(rt: LibcRuntime) -> Result<(), Stop> {
-    let done = blotter::run(&rt);
+    let done = clerk::run(&rt);
     if let Err(stop) = &done {
         eprintln!(rt, "obligations: {stop}")?;
     }

@@ -14,9 +14,8 @@ use Rattle.trades.specs.declared.trade.Kind.{Kind}
 use Rattle.trades.specs.declared.trade.Kind.the-variants.{Price, Rate, Interbank}
 use Rattle.trades.specs.declared.trade.Trade.{Trade}
 use Rattle.trades.specs.declared.trade.Figures.{Figures}
-use Rattle.trades.specs.declared.trade.Field.the-variants.{Buyer, Seller}
 use Rattle.trades.specs.declared.trade.Flaw.{Flaw}
-use Rattle.trades.specs.declared.trade.Flaw.the-variants.{NoHouse, OneHouse, NoPaper, Lots, Quote, Days}
+use Rattle.trades.specs.declared.trade.Flaw.the-variants.{NoBuyer, NoSeller, OneHouse, NoPaper, Lots, Quote, Days}
 
 -- the market of a trade
 abbrev pub market : Kind → Meaning
@@ -36,8 +35,8 @@ value t = market (t .kind) .value (t .lots) (t .quote) (t .days)
 -- the first figure that is out of range
 abbrev pub flaw : Figures → Option Flaw
 flaw f =
-    cond (ltb 15 (f .buyer)) (Some (NoHouse Buyer))
-    (cond (ltb 15 (f .seller)) (Some (NoHouse Seller))
+    cond (ltb 15 (f .buyer)) (Some NoBuyer)
+    (cond (ltb 15 (f .seller)) (Some NoSeller)
     (cond (eqb (f .buyer) (f .seller)) (Some OneHouse)
     (cond (ltb 7 (f .paper)) (Some NoPaper)
     (cond (not (between 1 1000000 (f .lots))) (Some Lots)

@@ -1,7 +1,6 @@
 //! The checks on a trade's figures, and its value.
 ghost use mathlib.Core.Path.{_≡_};
 ghost use Rattle.trades.specs.Trades.{market, name, value, flaw, told, checked};
-use super::trade::Field;
 use super::trade::Figures;
 use super::trade::Flaw;
 use super::trade::Kind;
@@ -26,6 +25,17 @@ impl Kind {
         }
     }
 
+    // Whether the buyer pledges its line on the seller, and whether the seller does its own on the buyer.
+    pub fn pledges(self) -> (bool, bool)
+        ensures { λ r. ⌜ r ≡ market self .pledges ⌝ }
+    {
+        match self {
+            Kind::Price => Price.pledges(),
+            Kind::Rate => Rate.pledges(),
+            Kind::Interbank => Interbank.pledges(),
+        }
+    }
+
     fn highest(self) -> u32
         ensures { λ r. ⌜ r ≡ market self .highest ⌝ }
     {
@@ -43,16 +53,16 @@ impl Figures {
     {
         let highest = self.kind.highest();
         if self.buyer > 15 {
-            Some(Flaw::NoHouse(Field::Buyer))
+            Some(Flaw::NoBuyer)
         } else if self.seller > 15 {
-            Some(Flaw::NoHouse(Field::Seller))
+            Some(Flaw::NoSeller)
         } else if self.buyer == self.seller {
             Some(Flaw::OneHouse)
         } else if self.paper > 7 {
             Some(Flaw::NoPaper)
         } else if self.lots < 1 || self.lots > 1_000_000 {
             Some(Flaw::Lots)
-        } else if self.quote < 1 || self.quote > highest {
+        } else if self.quote < 1 || self.quote > u64::from(highest) {
             Some(Flaw::Quote(highest))
         } else if self.days > 365 {
             Some(Flaw::Days)
@@ -73,9 +83,9 @@ impl Figures {
             buyer: self.buyer as u8,
             seller: self.seller as u8,
             paper: self.paper as u8,
-            lots: self.lots,
-            quote: self.quote,
-            days: self.days,
+            lots: self.lots as u32,
+            quote: self.quote as u32,
+            days: self.days as u32,
         })
     }
 }

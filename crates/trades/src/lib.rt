@@ -2,7 +2,6 @@
 mod figures;
 mod trade;
 
-pub use trade::Field;
 pub use trade::Figures;
 pub use trade::Flaw;
 pub use trade::Kind;

@@ -1,4 +1,4 @@
-//! A trade, and what may be wrong with the line that tells it.
+//! A trade, and what may be wrong with its figures.
 
 #[derive(Clone, Copy, PartialEq, Eq, Debug)]
 pub enum Kind {
@@ -22,33 +22,19 @@ pub struct Trade {
 #[derive(Clone, Copy)]
 pub struct Figures {
     pub kind: Kind,
-    pub buyer: u32,
-    pub seller: u32,
-    pub paper: u32,
-    pub lots: u32,
-    pub quote: u32,
-    pub days: u32,
+    pub buyer: u64,
+    pub seller: u64,
+    pub paper: u64,
+    pub lots: u64,
+    pub quote: u64,
+    pub days: u64,
 }
 
-#[derive(Clone, Copy, PartialEq, Eq, Debug)]
-pub enum Field {
-    Market,
-    Buyer,
-    Seller,
-    Paper,
-    Lots,
-    Quote,
-    Days,
-}
-
+// The first figure that is out of range.
 #[derive(Clone, Copy, PartialEq, Eq, Debug)]
 pub enum Flaw {
-    Missing(Field),
-    NoMarket,
-    NoNumber(Field),
-    Surplus,
-    NotText,
-    NoHouse(Field),
+    NoBuyer,
+    NoSeller,
     OneHouse,
     NoPaper,
     Lots,

@@ -1,0 +1,3 @@
+pub mod Credit
+pub mod Rules
+pub mod Of

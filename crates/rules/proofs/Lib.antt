@@ -1,0 +1,4 @@
+pub mod Lists
+pub mod Refused
+pub mod Meeting
+pub mod Fair

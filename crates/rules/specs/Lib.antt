@@ -1,0 +1,13 @@
+pub mod State
+pub mod Board
+pub mod Refusals
+pub mod Closing
+pub mod Entering
+pub mod Ticking
+pub mod Voting
+pub mod Steps
+pub mod Questions
+pub mod File
+pub mod Runs
+pub mod Cases
+pub mod Laws

@@ -1,0 +1,33 @@
+//! The rules of a session: its vocabulary, and in `specs/` the rules themselves.
+mod calls;
+mod closes;
+mod laws;
+mod offers;
+mod refusal;
+mod told;
+
+pub use calls::Answer;
+pub use calls::Call;
+pub use calls::CaseName;
+pub use calls::Entry;
+pub use calls::ExposureTime;
+pub use calls::Settings;
+pub use closes::Close;
+pub use closes::Hearing;
+pub use closes::Stage;
+pub use laws::closes_are_fair;
+pub use laws::memory_does_not_matter;
+pub use laws::refused_call_changes_nothing;
+pub use laws::who_is_met;
+pub use laws::worked_cases_hold;
+pub use offers::Exposure;
+pub use offers::Offer;
+pub use offers::Paper;
+pub use offers::Side;
+pub use refusal::Refusal;
+pub use refusal::RefusalDebug;
+pub use refusal::RefusalEq;
+pub use refusal::RefusalPartialEq;
+pub use told::RefusalFromBook;
+pub use told::RefusalFromFault;
+pub use told::RefusalFromLines;
