@@ -6,8 +6,16 @@ pub enum Entry {
     // A blank line, or a comment.
     Nothing,
     Trade(Trade),
-    Limit { granter: u8, counterparty: u8, pesos: u64 },
-    Block { house: u8, other: u8, on: bool },
+    Limit {
+        granter: u8,
+        counterparty: u8,
+        pesos: u64,
+    },
+    Block {
+        house: u8,
+        other: u8,
+        on: bool,
+    },
 }
 
 // A word of a line, by what it stands for.

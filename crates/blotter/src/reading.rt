@@ -122,7 +122,11 @@ fn block(text: &[u8]) -> Result<Entry, Flaw>
     if !ends(words.next()) {
         return Err(Flaw::Surplus);
     }
-    Ok(Entry::Block { house: h, other, on })
+    Ok(Entry::Block {
+        house: h,
+        other,
+        on,
+    })
 }
 
 fn trade(word: &[u8], text: &[u8]) -> Result<Entry, Flaw>

@@ -18,7 +18,12 @@ use ledger::Outcome;
 use std::io::Write;
 use words::Lines;
 
-fn take_trade<B: Book>(ledger: &mut Ledger<B>, at: usize, numbered: Numbered, out: &mut impl Write) -> Result<(), Stop> {
+fn take_trade<B: Book>(
+    ledger: &mut Ledger<B>,
+    at: usize,
+    numbered: Numbered,
+    out: &mut impl Write,
+) -> Result<(), Stop> {
     match ledger.take(numbered.trade) {
         Ok(Outcome::Posted { .. }) => writeln!(out, "{numbered}")?,
         Ok(Outcome::PassedOver(fault)) => {
@@ -31,7 +36,13 @@ fn take_trade<B: Book>(ledger: &mut Ledger<B>, at: usize, numbered: Numbered, ou
 }
 
 // One line, with the number that its trade would have; says whether it had a trade.
-fn take_line<B: Book>(ledger: &mut Ledger<B>, at: usize, line: &[u8], number: u64, out: &mut impl Write) -> Result<bool, Stop> {
+fn take_line<B: Book>(
+    ledger: &mut Ledger<B>,
+    at: usize,
+    line: &[u8],
+    number: u64,
+    out: &mut impl Write,
+) -> Result<bool, Stop> {
     let entry = match blotter::read(line) {
         Ok(entry) => entry,
         Err(flaw) => return Err(Stop::Flawed(at, flaw)),
@@ -56,7 +67,11 @@ fn take_line<B: Book>(ledger: &mut Ledger<B>, at: usize, line: &[u8], number: u6
 }
 
 // Every line in turn, up to the first that ends the run.
-pub(crate) fn take_lines<B: Book>(ledger: &mut Ledger<B>, text: &[u8], out: &mut impl Write) -> Result<(), Stop> {
+pub(crate) fn take_lines<B: Book>(
+    ledger: &mut Ledger<B>,
+    text: &[u8],
+    out: &mut impl Write,
+) -> Result<(), Stop> {
     let mut lines = Lines::new(text);
     let mut at: usize = 0;
     let mut number: u64 = 1;

@@ -65,7 +65,9 @@ struct OfLine(Flaw);
 impl fmt::Display for OfLine as OfLineDisplay {
     fn fmt<W: fmt::Write>(&self, f: &mut fmt::Formatter<W>) -> fmt::Result {
         match self.0 {
-            Flaw::Unknown => f.write_str("the first word is none of price, rate, interbank, limit, block"),
+            Flaw::Unknown => f.write_str(
+                "the first word is none of price, rate, interbank, limit, block",
+            ),
             Flaw::Missing(field) => write!(f, "{} is missing", name(field)),
             Flaw::NoNumber(field) => write!(f, "{} is not a number of 1 to 18 digits", name(field)),
             Flaw::NoHouse(field) => write!(f, "{} is not a house from 0 to 15", name(field)),
@@ -98,10 +100,20 @@ pub impl fmt::Display for Stop as StopDisplay {
             Stop::NoBook => f.write_str("the book is neither journal nor net"),
             Stop::Flawed(at, flaw) => write!(f, "line {at}: {}", OfLine(*flaw)),
             Stop::NotPosted(at, refusal) => {
-                write!(f, "line {at}: refused with {}: {}", refusal.number(), why_not_posted(*refusal))
+                write!(
+                    f,
+                    "line {at}: refused with {}: {}",
+                    refusal.number(),
+                    why_not_posted(*refusal)
+                )
             }
             Stop::NotSet(at, refusal) => {
-                write!(f, "line {at}: refused with {}: {}", refusal.number(), why_not_set(*refusal))
+                write!(
+                    f,
+                    "line {at}: refused with {}: {}",
+                    refusal.number(),
+                    why_not_set(*refusal)
+                )
             }
         }
     }

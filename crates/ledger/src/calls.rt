@@ -47,7 +47,12 @@ impl<B: Book> Ledger<B> {
     }
 
     // Sets a line's limit. From now on the lines rule.
-    pub fn set_limit(&mut self, granter: u8, counterparty: u8, pesos: u64) -> Result<(), lines::Refusal>
+    pub fn set_limit(
+        &mut self,
+        granter: u8,
+        counterparty: u8,
+        pesos: u64,
+    ) -> Result<(), lines::Refusal>
         ensures lines { λ r. ⌜ LimitSet (credit (now (self .entry) .lines)) granter counterparty pesos r (credit (now (self .exit) .lines)) ⌝ }
         ensures ruled { λ _. ⌜ now (self .exit) .ruled ≡ true ⌝ }
         ensures book { λ _. ⌜ now (self .exit) .book ≡ now (self .entry) .book ⌝ }
@@ -73,7 +78,12 @@ impl<B: Book> Ledger<B> {
         if !self.ruled {
             return None;
         }
-        self.lines.may_trade(trade.kind.pledges(), trade.buyer, trade.seller, trade.value())
+        self.lines.may_trade(
+            trade.kind.pledges(),
+            trade.buyer,
+            trade.seller,
+            trade.value(),
+        )
     }
 
     // Posts a trade that the lines allow, and uses them; passes over one that they do not.
@@ -87,7 +97,8 @@ impl<B: Book> Ledger<B> {
         self.book.post(posting(trade))?;
         let value = trade.value();
         if self.ruled {
-            match self.lines.use_lines(trade.kind.pledges(), trade.buyer, trade.seller, value) {
+            match self.lines
+                .use_lines(trade.kind.pledges(), trade.buyer, trade.seller, value) {
                 Ok(()) => {}
                 Err(_) => unreachable(),
             }

@@ -31,7 +31,7 @@ use Rattle.rules.specs.State.{Session, State, put, with-clock, seconds}
 use Rattle.rules.specs.Board.{Pair, paired, pair-of, lesser, met, fewer, offer-of, no-offer, reduced}
 use Rattle.rules.specs.Closing.{may-trade, close-at, struck}
 use Rattle.rules.specs.Entering.{Way, meet, through, offered, shown, begun, first-able, entered}
-use Rattle.rules.specs.Ticking.{exposed-pair, quieted, ended, due, all-due} 
+use Rattle.rules.specs.Ticking.{exposed-pair, quieted, ended, due, all-due}
 use Rattle.rules.specs.Ticking as ticking
 use Rattle.rules.specs.Steps.{Outcome, accepts, unless, step}
 use Rattle.rules.specs.Laws.{In, Crosses, Crossing, Shown-well, Exposures-cross, Value-between, Closes-are-fair}
@@ -105,8 +105,8 @@ module _ (n : Session) (s : State) where
   way-grown e (o ∷ xs) w c u =
       way-grown e xs (meet n w o) (λ y i. c y (inr i))
       (cond-both _ _ w (Under-way e)
-        (λ t. (u .0, u .1, grown-struck (w .state) (paired (w .offer) o) (o .quote) (paired-crosses (e .side) e (w .offer) o (u .0) (u .1) (c o (inl refl))) (u .2)))
-        (λ f. u))
+      (λ t. (u .0, u .1, grown-struck (w .state) (paired (w .offer) o) (o .quote) (paired-crosses (e .side) e (w .offer) o (u .0) (u .1) (c o (inl refl))) (u .2)))
+      (λ f. u))
 
   begun-grown : (o : Offer) (found : Option Offer) → (begun n s o found .days ≡ s .days) × (begun n s o found .closes ≡ s .closes)
   begun-grown o None = (refl, refl)
@@ -122,7 +122,7 @@ module _ (n : Session) (s : State) where
         let o = offered s e in
         let w : Way = record { state = s; offer = o; postings = [] } in
         rw t (grown-like (through n s o .state) _ refl refl
-          (way-grown o (met m o (s .offers)) w (λ p i. met-crosses m o (s .offers) p i .1) (refl, refl, grown-none s refl refl)))
+        (way-grown o (met m o (s .offers)) w (λ p i. met-crosses m o (s .offers) p i .1) (refl, refl, grown-none s refl refl)))
     | inr u ↦
         let h = shown-grown (offered s e) (s .papers (e .paper)) in
         rw u (grown-none _ (h .0) (h .1))
@@ -178,9 +178,9 @@ module _ (n : Session) where
           let lots = lesser (exposed-pair s x) in
           let sold = reduced (exposed-pair s x .sell .number) lots (s .offers) in
           let keeps : (k : ℕ) → offer-of k (s .offers) .paper ≡ q → 0 < offer-of k (s .offers) .lots → offer-of k (reduced (exposed-pair s x .buy .number) lots sold) ≡ offer-of k (s .offers) =
-            λ k of-q some.
-              let once = still-there k (exposed-pair s x .sell .number) lots (s .offers) (apart (x .sell) k (a .sell-paper) (a .sell-lots) q d of-q) some in
-              still-there k (exposed-pair s x .buy .number) lots sold (apart (x .buy) k (a .buy-paper) (a .buy-lots) q d of-q) (subst (λ (o : Offer). 0 < o .lots) (sym once) some) ∙ once in
+          λ k of-q some.
+          let once = still-there k (exposed-pair s x .sell .number) lots (s .offers) (apart (x .sell) k (a .sell-paper) (a .sell-lots) q d of-q) some in
+          still-there k (exposed-pair s x .buy .number) lots sold (apart (x .buy) k (a .buy-paper) (a .buy-lots) q d of-q) (subst (λ (o : Offer). 0 < o .lots) (sym once) some) ∙ once in
           let buy = keeps (y .buy) (b .buy-paper) (b .buy-lots) in
           let sell = keeps (y .sell) (b .sell-paper) (b .sell-lots) in
           let pairs : exposed-pair s y ≡ exposed-pair (quieted paper (struck n s (exposed-pair s x) (x .price))) y = sym (λ i. record { buy = buy i; sell = sell i }) in
@@ -202,8 +202,8 @@ module _ (n : Session) where
       let p = exposed-pair (t .state) x in
       cond-both (leb (x .end) (t .state .clock)) _ t (Ticking-well s)
       (λ _. cond-both (may-trade n (t .state) p (x .price)) _ _ (Ticking-well s)
-        (λ _. (grown-like n s (struck n (t .state) p (x .price)) _ refl refl (grown-struck n s (t .state) p (x .price) (w .1 paper x e .crossing) (w .0)), cross-struck (t .state) paper x e (w .1)))
-        (λ _. (grown-like n s (t .state) _ refl refl (w .0), cross-void (t .state) paper x e (w .1))))
+      (λ _. (grown-like n s (struck n (t .state) p (x .price)) _ refl refl (grown-struck n s (t .state) p (x .price) (w .1 paper x e .crossing) (w .0)), cross-struck (t .state) paper x e (w .1)))
+      (λ _. (grown-like n s (t .state) _ refl refl (w .0), cross-void (t .state) paper x e (w .1))))
       (λ _. w)
 
   tick-well : (s : State) (papers : List ℕ) (t : ticking.Tick) → Ticking-well s t → Ticking-well s (folded (λ u paper. due n u paper (u .state .papers paper)) t papers)
@@ -216,12 +216,12 @@ none-new m days cs ds c e i = absurd (subst (In c) (drop-all (length cs) ds (ome
 
 -- a call that strikes nothing: there are as many closes after it
 as-many : (s : State) (why : Option Refusal) (answer : Answer) (t : State) (postings : List Posting) → length (t .closes) ≡ length (s .closes)
-  → length (unless why s (accepts answer t postings) .state .closes) ≡ length (s .closes)
+    → length (unless why s (accepts answer t postings) .state .closes) ≡ length (s .closes)
 as-many s None answer t postings e = e
 as-many s (Some refusal) answer t postings e = refl
 
 pub step-fair : (n : Session) (places : ℕ) (s : State) (call : Call) → Exposures-cross n s → (c : Close)
-  → In c (drop (length (s .closes)) (step n places s call .state .closes)) → Fair (n .market) (s .days) c
+    → In c (drop (length (s .closes)) (step n places s call .state .closes)) → Fair (n .market) (s .days) c
 step-fair n places s (Term paper days) well c i = none-new (n .market) (s .days) (s .closes) _ c (as-many s _ _ _ _ refl) i
 step-fair n places s (Limit granter counterparty pesos) well c i = none-new (n .market) (s .days) (s .closes) _ c (as-many s _ _ _ _ refl) i
 step-fair n places s (Block house other on) well c i = none-new (n .market) (s .days) (s .closes) _ c (as-many s _ _ _ _ refl) i

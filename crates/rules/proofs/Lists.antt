@@ -43,7 +43,7 @@ module _ {X : Type 0} where
 
   -- two lists in a strict order that hold the same are one
   pub same-ordered : (R : X → X → Type 0) → ((x y : X) → R x y → R y x → ⊥) → (xs ys : List X) → Ordered R xs → Ordered R ys
-    → ((z : X) → In z xs → In z ys) → ((z : X) → In z ys → In z xs) → xs ≡ ys
+      → ((z : X) → In z xs → In z ys) → ((z : X) → In z ys → In z xs) → xs ≡ ys
   same-ordered R never [] [] o p to from = refl
   same-ordered R never [] (y ∷ ys) o p to from = absurd (from y (inl refl))
   same-ordered R never (x ∷ xs) [] o p to from = absurd (to x (inl refl))
@@ -56,12 +56,12 @@ module _ {X : Type 0} where
         ]
       ] in
       let tails : xs ≡ ys = same-ordered R never xs ys (o .1) (p .1)
-        (λ z i. elim (to z (inr i)) [
-          | inl e ↦ absurd (let r : R x x = subst (R x) (e ∙ sym heads) (o .0 z i) in never x x r r)
-          | inr j ↦ j
-        ])
-        (λ z i. elim (from z (inr i)) [
-          | inl e ↦ absurd (let r : R y y = subst (R y) (e ∙ heads) (p .0 z i) in never y y r r)
-          | inr j ↦ j
-        ]) in
+      (λ z i. elim (to z (inr i)) [
+        | inl e ↦ absurd (let r : R x x = subst (R x) (e ∙ sym heads) (o .0 z i) in never x x r r)
+        | inr j ↦ j
+      ])
+      (λ z i. elim (from z (inr i)) [
+        | inl e ↦ absurd (let r : R y y = subst (R y) (e ∙ heads) (p .0 z i) in never y y r r)
+        | inr j ↦ j
+      ]) in
       cc

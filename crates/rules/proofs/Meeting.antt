@@ -63,9 +63,9 @@ module _ (m : Meaning) where
   placed-in o (p ∷ ps) q h = elim (cases-bool (ahead m o p)) [
     | inl t ↦ rw t h
     | inr u ↦ rw u (elim h [
-        | inl e ↦ inr (placed-in o ps q (inl e))
-        | inr i ↦ elim i [ inl e ↦ inl e | inr j ↦ inr (placed-in o ps q (inr j)) ]
-      ])
+      | inl e ↦ inr (placed-in o ps q (inl e))
+      | inr i ↦ elim i [ inl e ↦ inl e | inr j ↦ inr (placed-in o ps q (inr j)) ]
+    ])
   ]
 
   in-best : (os : List Offer) (q : Offer) → In q (best-first m os) → In q os
@@ -80,14 +80,20 @@ module _ (m : Meaning) where
   placed-ordered : (o : Offer) (ps : List Offer) → ((p : Offer) → In p ps → (o .side ≡ p .side) × (o .number ≡ p .number → ⊥)) → Ordered (Ahead m) ps → Ordered (Ahead m) (placed m o ps)
   placed-ordered o [] apart h = ((λ y i. absurd i), tt)
   placed-ordered o (p ∷ ps) apart h = elim (cases-bool (ahead m o p)) [
-    | inl t ↦ rw t ((λ y i. elim i [
+    | inl t ↦ rw t (
+      (λ y i. elim i [
         | inl e ↦ subst (Ahead m o) (sym e) t
         | inr j ↦ ahead-chain o p y (apart p (inl refl) .0) t (h .0 y j)
-      ]), h)
-    | inr u ↦ rw u ((λ y i. elim (in-placed o ps y i) [
+      ]),
+      h,
+    )
+    | inr u ↦ rw u (
+      (λ y i. elim (in-placed o ps y i) [
         | inl e ↦ subst (Ahead m p) (sym e) (ahead-other o p (apart p (inl refl) .0) (apart p (inl refl) .1) u)
         | inr j ↦ h .0 y j
-      ]), placed-ordered o ps (λ q i. apart q (inr i)) (h .1))
+      ]),
+      placed-ordered o ps (λ q i. apart q (inr i)) (h .1),
+    )
   ]
 
   best-ordered : (side : Side) (os : List Offer) → ((o : Offer) → In o os → o .side ≡ side) → Numbers-differ os → Ordered (Ahead m) (best-first m os)
@@ -136,10 +142,13 @@ module _ (m : Meaning) where
   placed-differ o [] apart h = ((λ y i. absurd i), tt)
   placed-differ o (p ∷ ps) apart h = elim (cases-bool (ahead m o p)) [
     | inl t ↦ rw t (apart, h)
-    | inr u ↦ rw u ((λ y i. elim (in-placed o ps y i) [
+    | inr u ↦ rw u (
+      (λ y i. elim (in-placed o ps y i) [
         | inl e ↦ λ same. apart p (inl refl) (sym (same ∙ ap (λ (x : Offer). x .number) e))
         | inr j ↦ h .0 y j
-      ]), placed-differ o ps (λ q i. apart q (inr i)) (h .1))
+      ]),
+      placed-differ o ps (λ q i. apart q (inr i)) (h .1),
+    )
   ]
 
   best-differ : (os : List Offer) → Numbers-differ os → Numbers-differ (best-first m os)

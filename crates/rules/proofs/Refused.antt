@@ -15,8 +15,8 @@ use Rattle.rules.specs.Steps.{accepts, unless}
 use Rattle.rules.specs.Laws.{Refused-changes-nothing}
 
 given-back : (why : Option Refusal) (s : State) (answer : Answer) (after : State) (postings : List Posting) (refusal : Refusal)
-  → unless why s (accepts answer after postings) .answer ≡ Err refusal
-  → (unless why s (accepts answer after postings) .state ≡ s) × (unless why s (accepts answer after postings) .postings ≡ [])
+    → unless why s (accepts answer after postings) .answer ≡ Err refusal
+    → (unless why s (accepts answer after postings) .state ≡ s) × (unless why s (accepts answer after postings) .postings ≡ [])
 given-back None s answer after postings refusal e = let z : _≡_ {A = ℕ} 0 1 = cc in absurd (omega arith)
 given-back (Some why) s answer after postings refusal e = (refl, refl)
 

@@ -84,10 +84,10 @@ pub record Worked-cases : Type 0 where
   pub seller-short : one-trade 49125000 49124999 .answers ≡ (done ∷ done ∷ Ok (Ticked (0, 0, 0)) ∷ Ok (Entered 1 0) ∷ Ok (Entered 2 0) ∷ [])
   -- equal quotes are met in the order of entry
   pub in-order : map told (two-sellers .state .closes) ≡
-    (record { buyer = 5; seller = 4; lots = 100; price = 98000; value = 9800000 } ∷ record { buyer = 5; seller = 3; lots = 50; price = 98000; value = 4900000 } ∷ [])
+      (record { buyer = 5; seller = 4; lots = 100; price = 98000; value = 9800000 } ∷ record { buyer = 5; seller = 3; lots = 50; price = 98000; value = 4900000 } ∷ [])
   -- a bettered exposure closes at the better quote, when it ends and not before
   pub bettered-answers : bettered .answers ≡
-    (done ∷ done ∷ done ∷ done ∷ Ok (Ticked (0, 0, 0)) ∷ Ok (Entered 1 0) ∷ Ok (Entered 2 0) ∷ Ok (Entered 3 0) ∷ Ok (Ticked (0, 0, 0)) ∷ Ok (Ticked (1, 0, 0)) ∷ [])
+      (done ∷ done ∷ done ∷ done ∷ Ok (Ticked (0, 0, 0)) ∷ Ok (Entered 1 0) ∷ Ok (Entered 2 0) ∷ Ok (Entered 3 0) ∷ Ok (Ticked (0, 0, 0)) ∷ Ok (Ticked (1, 0, 0)) ∷ [])
   pub bettered-close : map told (bettered .state .closes) ≡ (record { buyer = 3; seller = 1; lots = 60; price = 98200; value = 5892000 } ∷ [])
   -- and its closing file, byte by byte
   pub bettered-file : file (bettered .state .closes) ≡ (0x01 ∷ 0x01 ∷ 0x03 ∷ 0x01 ∷ 0x00 ∷ 0x3C ∷ 0x98 ∷ 0xFF ∷ 0x05 ∷ 0xA0 ∷ 0xCF ∷ 0xE7 ∷ 0x02 ∷ 0x00 ∷ [])

@@ -53,17 +53,17 @@ pub record Meets (m : Meaning) (entering : Offer) (offers through : List Offer) 
 -- WHO IS MET: an entry goes through exactly the standing offers that cross it, and no other list does
 abbrev pub Who-is-met : Type 0
 Who-is-met = (m : Meaning) (entering : Offer) (offers : List Offer) → Numbers-differ offers
-  → Meets m entering offers (met m entering offers) × ((through : List Offer) → Meets m entering offers through → through ≡ met m entering offers)
+    → Meets m entering offers (met m entering offers) × ((through : List Offer) → Meets m entering offers through → through ≡ met m entering offers)
 
 -- MEMORY DOES NOT MATTER: where two lists hold the same standing offers, an entry goes through the same offers in the same order
 abbrev pub Memory-does-not-matter : Type 0
 Memory-does-not-matter = (m : Meaning) (entering : Offer) (offers others : List Offer) → Numbers-differ offers → Numbers-differ others
-  → ((o : Offer) → In o offers → In o others) → ((o : Offer) → In o others → In o offers) → met m entering offers ≡ met m entering others
+    → ((o : Offer) → In o offers → In o others) → ((o : Offer) → In o others → In o offers) → met m entering offers ≡ met m entering others
 
 -- A REFUSED CALL CHANGES NOTHING
 abbrev pub Refused-changes-nothing : Type 0
 Refused-changes-nothing = (n : Session) (places : ℕ) (s : State) (call : Call) (why : Refusal)
-  → step n places s call .answer ≡ Err why → (step n places s call .state ≡ s) × (step n places s call .postings ≡ [])
+    → step n places s call .answer ≡ Err why → (step n places s call .state ≡ s) × (step n places s call .postings ≡ [])
 
 -- the pair crosses at the price
 pub record Crossing (m : Meaning) (ask price bid : ℕ) : Type 0 where
@@ -89,5 +89,5 @@ pub record Value-between (m : Meaning) (days : ℕ) (c : Close) : Type 0 where
 -- CLOSES ARE FAIR: the price of a close that a step strikes ranks between its seller's quote and its buyer's, and by the market's law so does its value
 abbrev pub Closes-are-fair : Type 0
 Closes-are-fair = (n : Session) (places : ℕ) (s : State) (call : Call) → Exposures-cross n s
-  → (c : Close) → In c (drop (length (s .closes)) (step n places s call .state .closes))
-  → Crossing (n .market) (c .ask) (c .price) (c .bid) × (Dearer (n .market) → Value-between (n .market) (s .days (c .paper)) c)
+    → (c : Close) → In c (drop (length (s .closes)) (step n places s call .state .closes))
+    → Crossing (n .market) (c .ask) (c .price) (c .bid) × (Dearer (n .market) → Value-between (n .market) (s .days (c .paper)) c)

@@ -73,10 +73,10 @@ abbrev pub withdraw : State → (house offer : ℕ) → Outcome
 withdraw s house offer =
     let o = offer-of offer (s .offers) in
     unless (first (
-      refuse (ltb 15 house) NoHouse
-      ∷ refuse (not (stands offer (s .offers)) || not (eqb (o .house) house)) NoOffer
-      ∷ refuse (not (quiet (s .papers (o .paper)))) PaperExposed
-      ∷ [])) s
+    refuse (ltb 15 house) NoHouse
+    ∷ refuse (not (stands offer (s .offers)) || not (eqb (o .house) house)) NoOffer
+    ∷ refuse (not (quiet (s .papers (o .paper)))) PaperExposed
+    ∷ [])) s
     (accepts (Withdrawn (o .lots)) (with-offers (without offer (s .offers)) s) [])
 
 -- sets the clock; answers closes, voids and lapses
@@ -104,7 +104,7 @@ decide n s c =
     let h = hearing-of s c in
     unless (first (decide-rules n s c)) s
     (accepts (Decided (annulled h) (votes h (h .yes)) (votes h (h .no))) (staged (c .close) (decided h) s)
-      (cond (annulled h) (exchanged (posting (close-of s (c .close))) ∷ []) []))
+    (cond (annulled h) (exchanged (posting (close-of s (c .close))) ∷ []) []))
 
 -- a party frees its line of an annulled close
 abbrev pub release : Session → State → (house close : ℕ) → Outcome

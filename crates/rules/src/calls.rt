@@ -35,17 +35,48 @@ pub struct CaseName {
 
 #[derive(Clone, Copy)]
 pub enum Call {
-    Term { paper: u8, days: u32 },
-    Limit { granter: u8, counterparty: u8, pesos: u64 },
-    Block { house: u8, other: u8, on: bool },
+    Term {
+        paper: u8,
+        days: u32,
+    },
+    Limit {
+        granter: u8,
+        counterparty: u8,
+        pesos: u64,
+    },
+    Block {
+        house: u8,
+        other: u8,
+        on: bool,
+    },
     Enter(Entry),
-    Withdraw { house: u8, offer: u32 },
-    Tick { clock: u32 },
-    Complain { house: u8, close: u32, jury: [u8; 5] },
-    Vote { case: CaseName, juror: u8, yes: bool },
-    Decide { case: CaseName },
-    Release { house: u8, close: u32 },
-    Settle { close: u32 },
+    Withdraw {
+        house: u8,
+        offer: u32,
+    },
+    Tick {
+        clock: u32,
+    },
+    Complain {
+        house: u8,
+        close: u32,
+        jury: [u8; 5],
+    },
+    Vote {
+        case: CaseName,
+        juror: u8,
+        yes: bool,
+    },
+    Decide {
+        case: CaseName,
+    },
+    Release {
+        house: u8,
+        close: u32,
+    },
+    Settle {
+        close: u32,
+    },
 }
 
 #[derive(Clone, Copy)]
