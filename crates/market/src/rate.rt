@@ -24,7 +24,7 @@ pub impl Market for Rate as RateMarket {
 
     fn rank(&self, quote: u32) -> u32 {
         if quoted(quote, HIGHEST) {
-            1 + HIGHEST - quote
+            (HIGHEST + 1) - quote
         } else {
             0
         }
