@@ -30,18 +30,20 @@ use Rattle.rules.specs.declared.refusal.Refusal.{Refusal}
 use Rattle.rules.specs.State.{Session, State, put, with-clock, seconds}
 use Rattle.rules.specs.Board.{Pair, paired, pair-of, lesser, met, fewer, offer-of, no-offer, reduced}
 use Rattle.rules.specs.Closing.{may-trade, close-at, struck}
-use Rattle.rules.specs.Entering.{Way, meet, through, offered, shown, begun, first-able, entered}
-use Rattle.rules.specs.Ticking.{exposed-pair, quieted, ended, due, all-due}
+use Rattle.rules.specs.Entering.{Way, closes-with, closed-with, meet, through, offered, shown, begun, first-able, entered}
+use Rattle.rules.specs.Ticking.{exposed-pair, quieted, ended, due, all-due, after-lapses}
 use Rattle.rules.specs.Ticking as ticking
-use Rattle.rules.specs.Steps.{Outcome, accepts, unless, step}
+use Rattle.rules.specs.Refusals.{first}
+use Rattle.rules.specs.Steps.{rules-of, effect}
 use Rattle.rules.specs.Laws.{In, Crosses, Crossing, Shown-well, Exposures-cross, Value-between, Closes-are-fair}
 use Rattle.rules.proofs.Meeting.{met-crosses}
+use Rattle.rules.proofs.Refused.{after-call}
 
 pub record Fair (m : Meaning) (days : ℕ → ℕ) (c : Close) : Type 0 where
   pub crossing : Crossing m (c .ask) (c .price) (c .bid)
   pub value : c .value ≡ m .value (c .lots) (c .price) (days (c .paper))
 
-between : (m : Meaning) (days : ℕ → ℕ) (c : Close) → Fair m days c → Dearer m → Value-between m (days (c .paper)) c
+pub between : (m : Meaning) (days : ℕ → ℕ) (c : Close) → Fair m days c → Dearer m → Value-between m (days (c .paper)) c
 between m days c f law = record {
   above = omega (arith, f .value, law (c .lots) (days (c .paper)) (c .price) (c .ask) (f .crossing .above));
   below = omega (arith, f .value, law (c .lots) (days (c .paper)) (c .bid) (c .price) (f .crossing .below));
@@ -54,7 +56,7 @@ pub record Grown (m : Meaning) (s t : State) : Type 0 where
   pub closes : t .closes ≡ s .closes ++ more
   pub fair : (c : Close) → In c more → Fair m (s .days) c
 
-in-append : {X : Type 0} (xs ys : List X) (x : X) → In x (xs ++ ys) → In x xs ⊎ In x ys
+pub in-append : {X : Type 0} (xs ys : List X) (x : X) → In x (xs ++ ys) → In x xs ⊎ In x ys
 in-append [] ys x i = inr i
 in-append (y ∷ xs) ys x (inl e) = inl (inl e)
 in-append (y ∷ xs) ys x (inr i) = elim (in-append xs ys x i) [ inl j ↦ inl (inr j) | inr j ↦ inr j ]
@@ -88,12 +90,8 @@ module _ (n : Session) (s : State) where
     ];
   }
 
-  pub grown-unless : (why : Option Refusal) (answer : Answer) (t : State) (postings : List Posting) → Grown m s t → Grown m s (unless why s (accepts answer t postings) .state)
-  grown-unless None answer t postings g = g
-  grown-unless (Some refusal) answer t postings g = grown-none s refl refl
-
   -- an entering offer on its way: only its lots change
-  paired-crosses : (side : Side) (e f o : Offer) → f .side ≡ side → f .quote ≡ e .quote → Crosses m side e o → Crossing m (paired f o .sell .quote) (o .quote) (paired f o .buy .quote)
+  pub paired-crosses : (side : Side) (e f o : Offer) → f .side ≡ side → f .quote ≡ e .quote → Crosses m side e o → Crossing m (paired f o .sell .quote) (o .quote) (paired f o .buy .quote)
   paired-crosses Buy e f o p q c = rw p (record { above = omega arith; below = rw q (c .2) })
   paired-crosses Sell e f o p q c = rw p (record { above = rw q (c .2); below = omega arith })
 
@@ -104,7 +102,7 @@ module _ (n : Session) (s : State) where
   way-grown e [] w c u = u .2
   way-grown e (o ∷ xs) w c u =
       way-grown e xs (meet n w o) (λ y i. c y (inr i))
-      (cond-both _ _ w (Under-way e)
+      (cond-both (closes-with n w o) (closed-with n w o) w (Under-way e)
       (λ t. (u .0, u .1, grown-struck (w .state) (paired (w .offer) o) (o .quote) (paired-crosses (e .side) e (w .offer) o (u .0) (u .1) (c o (inl refl))) (u .2)))
       (λ f. u))
 
@@ -128,11 +126,11 @@ module _ (n : Session) (s : State) where
         rw u (grown-none _ (h .0) (h .1))
   ]
 
-same-number : (b : Bool) (lots : ℕ) (o : Offer) → cond b (fewer lots o) o .number ≡ o .number
+pub same-number : (b : Bool) (lots : ℕ) (o : Offer) → cond b (fewer lots o) o .number ≡ o .number
 same-number true lots o = refl
 same-number false lots o = refl
 
-passed-over : (k : ℕ) (b : Bool) (o : Offer) (os : List Offer) → eqb (o .number) k ≡ false → offer-of k (cond b (o ∷ os) os) ≡ offer-of k os
+pub passed-over : (k : ℕ) (b : Bool) (o : Offer) (os : List Offer) → eqb (o .number) k ≡ false → offer-of k (cond b (o ∷ os) os) ≡ offer-of k os
 passed-over k true o os e = cond-false _ _ _ e
 passed-over k false o os e = refl
 
@@ -151,7 +149,7 @@ still-there k j lots (o ∷ os) d some = elim (cases-bool (eqb (o .number) k)) [
 ]
 
 -- an offer with lots that is found has the number that was looked for
-found-number : (k : ℕ) (os : List Offer) → 0 < offer-of k os .lots → offer-of k os .number ≡ k
+pub found-number : (k : ℕ) (os : List Offer) → 0 < offer-of k os .lots → offer-of k os .number ≡ k
 found-number k [] some = absurd (omega arith)
 found-number k (o ∷ os) some = elim (cases-bool (eqb (o .number) k)) [
   | inl is ↦ rw is (eqb-true (o .number) k is)
@@ -167,7 +165,7 @@ module _ (n : Session) where
         let same : k ≡ i = e ∙ found-number i (s .offers) some in
         d (sym of-q ∙ ap (λ (h : ℕ). offer-of h (s .offers) .paper) same ∙ of-paper)
 
-    cross-struck : Exposures-cross n (quieted paper (struck n s (exposed-pair s x) (x .price)))
+    pub cross-struck : Exposures-cross n (quieted paper (struck n s (exposed-pair s x) (x .price)))
     cross-struck q y e = elim (cases-bool (eqb q paper)) [
       | inl same ↦ let z : Quiet ≡ Exposed y = rw same at e in absurd (let zero-is-one : _≡_ {A = ℕ} 0 1 = cc in omega arith)
       | inr differ ↦
@@ -187,7 +185,7 @@ module _ (n : Session) where
           subst (Shown-well (n .market) q (y .price)) pairs b
     ]
 
-    cross-void : Exposures-cross n (quieted paper s)
+    pub cross-void : Exposures-cross n (quieted paper s)
     cross-void q y e = elim (cases-bool (eqb q paper)) [
       | inl same ↦ let z : Quiet ≡ Exposed y = rw same at e in absurd (let zero-is-one : _≡_ {A = ℕ} 0 1 = cc in omega arith)
       | inr differ ↦ all q y (rw differ at e)
@@ -206,35 +204,37 @@ module _ (n : Session) where
       (λ _. (grown-like n s (t .state) _ refl refl (w .0), cross-void (t .state) paper x e (w .1))))
       (λ _. w)
 
-  tick-well : (s : State) (papers : List ℕ) (t : ticking.Tick) → Ticking-well s t → Ticking-well s (folded (λ u paper. due n u paper (u .state .papers paper)) t papers)
+  pub tick-well : (s : State) (papers : List ℕ) (t : ticking.Tick) → Ticking-well s t → Ticking-well s (folded (λ u paper. due n u paper (u .state .papers paper)) t papers)
   tick-well s [] t w = w
   tick-well s (paper ∷ more) t w = tick-well s more (due n t paper (t .state .papers paper)) (due-well s t paper (t .state .papers paper) refl w)
 
 -- nothing is new where there are as many closes
-none-new : (m : Meaning) (days : ℕ → ℕ) (cs ds : List Close) (c : Close) → length ds ≡ length cs → In c (drop (length cs) ds) → Fair m days c
-none-new m days cs ds c e i = absurd (subst (In c) (drop-all (length cs) ds (omega (arith, e))) i)
+none-new : (m : Meaning) (s t : State) (c : Close) → length (t .closes) ≡ length (s .closes) → In c (drop (length (s .closes)) (t .closes)) → Fair m (s .days) c
+none-new m s t c e i = absurd (subst (In c) (drop-all (length (s .closes)) (t .closes) (omega (arith, e))) i)
 
--- a call that strikes nothing: there are as many closes after it
-as-many : (s : State) (why : Option Refusal) (answer : Answer) (t : State) (postings : List Posting) → length (t .closes) ≡ length (s .closes)
-    → length (unless why s (accepts answer t postings) .state .closes) ≡ length (s .closes)
-as-many s None answer t postings e = e
-as-many s (Some refusal) answer t postings e = refl
+-- what is new after a call is fair
+abbrev New-fair : Session → State → State → Type 0
+New-fair n s t = (c : Close) → In c (drop (length (s .closes)) (t .closes)) → Fair (n .market) (s .days) c
 
-pub step-fair : (n : Session) (places : ℕ) (s : State) (call : Call) → Exposures-cross n s → (c : Close)
-    → In c (drop (length (s .closes)) (step n places s call .state .closes)) → Fair (n .market) (s .days) c
-step-fair n places s (Term paper days) well c i = none-new (n .market) (s .days) (s .closes) _ c (as-many s _ _ _ _ refl) i
-step-fair n places s (Limit granter counterparty pesos) well c i = none-new (n .market) (s .days) (s .closes) _ c (as-many s _ _ _ _ refl) i
-step-fair n places s (Block house other on) well c i = none-new (n .market) (s .days) (s .closes) _ c (as-many s _ _ _ _ refl) i
-step-fair n places s (Enter e) well c i = grown-new n s c _ (grown-unless n s _ _ _ _ (entered-grown n s e)) i
-step-fair n places s (Withdraw house offer) well c i = none-new (n .market) (s .days) (s .closes) _ c (as-many s _ _ _ _ refl) i
-step-fair n places s (Tick clock) well c i =
+pub ticked-grown : (n : Session) (s : State) (clock : ℕ) → Exposures-cross n s → Grown (n .market) s (after-lapses (all-due n (with-clock clock s) .state))
+ticked-grown n s clock well =
     let t = tick-well n s (0 ∷ 1 ∷ 2 ∷ 3 ∷ 4 ∷ 5 ∷ 6 ∷ 7 ∷ []) (record { state = with-clock clock s; closes = 0; voids = 0; postings = [] }) (grown-none n s (with-clock clock s) refl refl, well) in
-    grown-new n s c _ (grown-unless n s _ _ _ _ (grown-like n s (all-due n (with-clock clock s) .state) _ refl refl (t .0))) i
-step-fair n places s (Complain house close jury) well c i = none-new (n .market) (s .days) (s .closes) _ c (as-many s _ _ _ _ (length-set (s .closes) _ _)) i
-step-fair n places s (Vote k juror aye) well c i = none-new (n .market) (s .days) (s .closes) _ c (as-many s _ _ _ _ (length-set (s .closes) _ _)) i
-step-fair n places s (Decide k) well c i = none-new (n .market) (s .days) (s .closes) _ c (as-many s _ _ _ _ (length-set (s .closes) _ _)) i
-step-fair n places s (Release house close) well c i = none-new (n .market) (s .days) (s .closes) _ c (as-many s _ _ _ _ (length-set (s .closes) _ _)) i
-step-fair n places s (Settle close) well c i = none-new (n .market) (s .days) (s .closes) _ c (as-many s _ _ _ _ (length-set (s .closes) _ _)) i
+    grown-like n s (all-due n (with-clock clock s) .state) _ refl refl (t .0)
+
+effect-fair : (n : Session) (s : State) (call : Call) → Exposures-cross n s → New-fair n s (effect n s call .state)
+effect-fair n s (Term paper days) well c i = none-new (n .market) s s c refl i
+effect-fair n s (Limit granter counterparty pesos) well c i = none-new (n .market) s s c refl i
+effect-fair n s (Block house other on) well c i = none-new (n .market) s s c refl i
+effect-fair n s (Enter e) well c i = grown-new n s c _ (entered-grown n s e) i
+effect-fair n s (Withdraw house offer) well c i = none-new (n .market) s s c refl i
+effect-fair n s (Tick clock) well c i = grown-new n s c _ (ticked-grown n s clock well) i
+effect-fair n s (Complain house close jury) well c i = none-new (n .market) s (effect n s (Complain house close jury) .state) c (length-set (s .closes) _ _) i
+effect-fair n s (Vote k juror aye) well c i = none-new (n .market) s (effect n s (Vote k juror aye) .state) c (length-set (s .closes) _ _) i
+effect-fair n s (Decide k) well c i = none-new (n .market) s (effect n s (Decide k) .state) c (length-set (s .closes) _ _) i
+effect-fair n s (Release house close) well c i = none-new (n .market) s (effect n s (Release house close) .state) c (length-set (s .closes) _ _) i
+effect-fair n s (Settle close) well c i = none-new (n .market) s (effect n s (Settle close) .state) c (length-set (s .closes) _ _) i
 
 pub closes-are-fair : Closes-are-fair
-closes-are-fair n places s call well c i = let f = step-fair n places s call well c i in (f .crossing, between (n .market) (s .days) c f)
+closes-are-fair n places s call well c i =
+    let f = after-call (New-fair n s) (first (rules-of n places s call)) s (effect n s call) (λ d j. none-new (n .market) s s d refl j) (λ _. effect-fair n s call well) c i in
+    (f .crossing, between (n .market) (s .days) c f)

@@ -72,17 +72,22 @@ pub record Way : Type 0 where
   pub offer : Offer
   pub postings : List Posting
 
--- it closes with one that it may trade with, for the lesser of both lots at the standing quote, and passes over the others
-abbrev pub meet : Session → Way → Offer → Way
-meet n w standing =
+-- it closes with a standing offer, for the lesser of both lots at the standing quote
+abbrev pub closed-with : Session → Way → Offer → Way
+closed-with n w standing =
     let p = paired (w .offer) standing in
-    cond (ltb 0 (w .offer .lots) && may-trade n (w .state) p (standing .quote))
-    (record {
+    record {
       state = struck n (w .state) p (standing .quote);
       offer = fewer (lesser p) (w .offer);
       postings = w .postings ++ (posting (close-at n (w .state) p (standing .quote)) ∷ []);
-    })
-    w
+    }
+
+-- if it has lots left and they may trade; it passes over the others
+abbrev pub closes-with : Session → Way → Offer → Bool
+closes-with n w standing = ltb 0 (w .offer .lots) && may-trade n (w .state) (paired (w .offer) standing) (standing .quote)
+
+abbrev pub meet : Session → Way → Offer → Way
+meet n w standing = cond (closes-with n w standing) (closed-with n w standing) w
 
 -- it goes once through those that it crosses
 abbrev pub through : Session → State → Offer → Way

@@ -19,6 +19,7 @@ use Rattle.rules.specs.State.{Session, State}
 use Rattle.rules.specs.Board.{Pair, met}
 use Rattle.rules.specs.Ticking.{exposed-pair}
 use Rattle.rules.specs.Steps.{step}
+use Rattle.rules.specs.Runs.{Made, run}
 
 abbrev pub In : {X : Type 0} → X → List X → Type 0
 In x [] = ⊥
@@ -91,3 +92,10 @@ abbrev pub Closes-are-fair : Type 0
 Closes-are-fair = (n : Session) (places : ℕ) (s : State) (call : Call) → Exposures-cross n s
     → (c : Close) → In c (drop (length (s .closes)) (step n places s call .state .closes))
     → Crossing (n .market) (c .ask) (c .price) (c .bid) × (Dearer (n .market) → Value-between (n .market) (s .days (c .paper)) c)
+
+-- OVER WHOLE RUNS: whatever is called from a new session, exposed pairs cross at their price, so that every close of every run is fair
+abbrev pub Runs-are-fair : Type 0
+Runs-are-fair = (n : Session) (calls : List Made)
+    → Exposures-cross n (run n calls .state)
+    × ((c : Close) → In c (run n calls .state .closes)
+    → Crossing (n .market) (c .ask) (c .price) (c .bid) × (Dearer (n .market) → Value-between (n .market) (run n calls .state .days (c .paper)) c))

@@ -34,18 +34,24 @@ exposed-pair s x = record { buy = offer-of (x .buy) (s .offers); sell = offer-of
 abbrev pub quieted : (paper : ℕ) → State → State
 quieted paper s = with-papers (put paper Quiet (s .papers)) s
 
--- the exposed pair closes for the lesser lots at its price if it may trade, and otherwise is void; the paper is then quiet
-abbrev pub ended : Session → Tick → (paper : ℕ) → Exposure → Tick
-ended n t paper x =
+-- the exposed pair closes for the lesser lots at its price, and the paper is quiet
+abbrev pub closed-out : Session → Tick → (paper : ℕ) → Exposure → Tick
+closed-out n t paper x =
     let p = exposed-pair (t .state) x in
-    cond (may-trade n (t .state) p (x .price))
-    (record {
+    record {
       state = quieted paper (struck n (t .state) p (x .price));
       closes = t .closes + 1;
       voids = t .voids;
       postings = t .postings ++ (posting (close-at n (t .state) p (x .price)) ∷ []);
-    })
-    (record { state = quieted paper (t .state); closes = t .closes; voids = t .voids + 1; postings = t .postings })
+    }
+
+-- or it is void, and the paper is quiet
+abbrev pub voided : Tick → (paper : ℕ) → Tick
+voided t paper = record { state = quieted paper (t .state); closes = t .closes; voids = t .voids + 1; postings = t .postings }
+
+-- as the pair may trade or not
+abbrev pub ended : Session → Tick → (paper : ℕ) → Exposure → Tick
+ended n t paper x = cond (may-trade n (t .state) (exposed-pair (t .state) x) (x .price)) (closed-out n t paper x) (voided t paper)
 
 -- an exposure ends when the clock has come to its end
 abbrev pub due : Session → Tick → (paper : ℕ) → Paper → Tick

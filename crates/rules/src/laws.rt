@@ -1,6 +1,6 @@
 //! The laws of the rules: each stands in the contract of a function that does nothing else.
 ghost use Rattle.rules.specs.Cases.{Worked-cases};
-ghost use Rattle.rules.specs.Laws.{Who-is-met, Memory-does-not-matter, Refused-changes-nothing, Closes-are-fair};
+ghost use Rattle.rules.specs.Laws.{Who-is-met, Memory-does-not-matter, Refused-changes-nothing, Closes-are-fair, Runs-are-fair};
 
 // The eight cases worked by hand come out of the rules as they should.
 pub fn worked_cases_hold()
@@ -25,4 +25,9 @@ pub fn refused_call_changes_nothing()
 // A close costs its buyer no more and brings its seller no less than its own quote would.
 pub fn closes_are_fair()
     ensures { λ _. ⌜ Closes-are-fair ⌝ }
+{}
+
+// And so it is over every list of calls from a new session, for every close that was ever struck.
+pub fn runs_are_fair()
+    ensures { λ _. ⌜ Runs-are-fair ⌝ }
 {}

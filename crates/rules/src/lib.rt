@@ -18,6 +18,7 @@ pub use closes::Stage;
 pub use laws::closes_are_fair;
 pub use laws::memory_does_not_matter;
 pub use laws::refused_call_changes_nothing;
+pub use laws::runs_are_fair;
 pub use laws::who_is_met;
 pub use laws::worked_cases_hold;
 pub use offers::Exposure;

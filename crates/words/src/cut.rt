@@ -2,6 +2,7 @@ ghost use mathlib.Core.Path.{_≡_};
 ghost use Prim.Native.Nat.{ℕ, _+_, _*_, _-_, _^_, _<_, _≤_};
 ghost use lib.ListN.{length, take, drop};
 ghost use Rattle.std.specs.Options.{Cases, mapped};
+ghost use Rattle.words.specs.declared.mark.Mark.the-variants.{LineEnd};
 ghost use Rattle.words.specs.Words.{is, before, from, word, after, next-line, after-line, digit, number};
 use super::mark::Mark;
 
@@ -73,6 +74,16 @@ fn behind(text: &[u8]) -> &[u8]
     rest
 }
 
+// The first line, without the byte that ends it, and what follows that.
+fn first_line(text: &[u8]) -> (&[u8], &[u8])
+    ensures line { λ r. ⌜ now (r .0) ≡ before LineEnd (now (text .entry)) ⌝ }
+    ensures rest { λ r. ⌜ now (r .1) ≡ after-line (now (text .entry)) ⌝ }
+    ensures shorter { λ r. ⌜ (0 < length (now (text .entry)) → length (now (r .1)) < length (now (text .entry))) ⌝ }
+{
+    let (line, end) = cut(text, Mark::LineEnd);
+    (line, behind(end))
+}
+
 // The lines of a text, handed out one by one, each without the byte that ends it.
 #[derive(Drop)]
 pub struct Lines<'a> {
@@ -93,8 +104,8 @@ impl<'a> Lines<'a> {
         ensures shorter { λ r. ⌜ Cases r (Unit {0}) (λ _. length (now (now (self .exit) .rest)) < length (now (now (self .entry) .rest))) ⌝ }
     {
         let text = self.rest;
-        let (line, end) = cut(text, Mark::LineEnd);
-        self.rest = behind(end);
+        let (line, rest) = first_line(text);
+        self.rest = rest;
         if text.is_empty() { None } else { Some(line) }
     }
 }
