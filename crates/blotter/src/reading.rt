@@ -1,7 +1,7 @@
 //! A line, read.
 ghost use mathlib.Core.Path.{_≡_};
 ghost use Rattle.std.specs.shelf.Text.{sameBytes};
-ghost use Rattle.blotter.specs.Reading.{given, figure, house, switch, ends, ended, kind, figures, limit, block, trade, read};
+ghost use Rattle.blotter.specs.Reading.{figure, house, switch, ends, kind, figures, limit, block, trade, read};
 use super::entry::Entry;
 use super::entry::Field;
 use super::entry::Flaw;

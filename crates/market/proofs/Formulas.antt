@@ -1,15 +1,15 @@
 -- A market's range facts and its law, from its two formulas.
-use mathlib.Core.Path.{_≡_, refl, sym, subst}
-use mathlib.Core.Bool.{Bool, true, false, cond, _&&_}
-use mathlib.Core.Logic.{_⊎_, inl, inr}
-use Prim.Native.Nat.{ℕ, _+_, _-_, _*_, _/_, _%_, _<_, _≤_}
+use mathlib.Core.Path.{_≡_}
+use mathlib.Core.Bool.{Bool, true}
+use mathlib.Core.Logic.{inl, inr}
+use Prim.Native.Nat.{ℕ, _+_, _*_, _/_, _≤_}
 use native.Mathlib.Omega.{arith}
-use native.Mathlib.Nat.{mul-le-mul-left, mul-le-mul, div-mul-le-self, div-le-of-le-mul}
+use native.Mathlib.Nat.{mul-le-mul-left, div-mul-le-self, div-le-of-le-mul}
 use lib.Dec.{leb}
 use Rattle.std.proofs.shelf.Bits.{le-div}
-use Rattle.std.proofs.shelf.Tests.{leb-true, and-parts, cond-true, cond-false, cases-bool}
+use Rattle.std.proofs.shelf.Tests.{leb-true, and-parts, cond-false, cases-bool}
 use Rattle.std.proofs.shelf.Ways.{tells}
-use Rattle.market.specs.Meaning.{Meaning, Ranged, Dearer, between, tradable}
+use Rattle.market.specs.Meaning.{Ranged, Dearer, between, tradable}
 use Rattle.market.specs.Makes.{market, nearest}
 
 pub record Inside (highest lots quote days : ℕ) : Type 0 where

@@ -1,43 +1,37 @@
 -- What every run keeps, and that its closes are fair.
 use mathlib.Core.Path.{_≡_, refl, sym, ap, subst, _∙_}
-use mathlib.Core.Bool.{Bool, true, false, cond, not, _||_}
-use mathlib.Core.List.{List, [], _∷_, _++_}
+use mathlib.Core.Bool.{Bool, true, false, not}
+use mathlib.Core.List.{List, [], _∷_}
 use mathlib.Core.Logic.{_⊎_, inl, inr}
-use Prim.Native.Nat.{ℕ, zero, suc, _+_, _-_, _≤_, _<_}
+use Prim.Native.Nat.{ℕ, zero, suc, _+_, _-_, _<_}
 use native.Mathlib.Omega.{arith}
 use lib.Dec.{eqb, leb, ltb}
 use lib.ListN.{length, getD, set}
-use Rattle.std.proofs.shelf.Tests.{cases-bool, eqb-true, ne-eqb, not-false, not-from-false, ltb-false, cond-both, cond-true, cond-false}
+use Rattle.std.proofs.shelf.Tests.{cases-bool, ne-eqb, not-false, not-from-false, ltb-false, cond-both, cond-true, cond-false}
 use Rattle.std.specs.shelf.Lists.{folded}
-use Rattle.std.specs.declared.option.Option.{Option}
-use Rattle.std.specs.declared.option.Option.the-variants.{Some, None}
-use Rattle.book.specs.declared.posting.Posting.{Posting}
-use Rattle.market.specs.Meaning.{Meaning, Dearer}
-use Rattle.rules.specs.declared.calls.Answer.{Answer}
+use Rattle.std.specs.declared.option.Option.the-variants.{None}
 use Rattle.rules.specs.declared.calls.Call.{Call}
 use Rattle.rules.specs.declared.calls.Call.the-variants.{Term, Limit, Block, Enter, Withdraw, Tick, Complain, Vote, Decide, Release, Settle}
 use Rattle.rules.specs.declared.closes.Close.{Close}
 use Rattle.rules.specs.declared.closes.Stage.{Stage}
-use Rattle.rules.specs.declared.offers.Exposure.{Exposure}
 use Rattle.rules.specs.declared.offers.Offer.{Offer}
 use Rattle.rules.specs.declared.offers.Paper.{Paper}
 use Rattle.rules.specs.declared.offers.Paper.the-variants.{Quiet, Exposed}
-use Rattle.rules.specs.declared.refusal.Refusal.{Refusal}
 use Rattle.rules.specs.declared.refusal.Refusal.the-variants.{PaperExposed, TermFixed}
 use Rattle.rules.specs.declared.calls.Entry.{Entry}
 use Rattle.rules.specs.Closing.{may-trade}
 use Rattle.rules.specs.Entering.{through, offered, shown, entered}
-use Rattle.rules.specs.State.{Session, State, seconds, new, with-clock, with-closes, staged, at-stage, close-of, no-close}
+use Rattle.rules.specs.State.{Session, State, seconds, new, with-clock, staged, at-stage, close-of, no-close}
 use Rattle.rules.specs.Board.{offer-of}
 use Rattle.rules.specs.Refusals.{first}
 use Rattle.rules.specs.Ticking.{quiet, exposed-pair, closed-out, voided, ended, due, all-due, after-lapses}
 use Rattle.rules.specs.Ticking as ticking
 use Rattle.rules.specs.Steps.{term-rules, withdraw-rules, rules-of, effect, step}
-use Rattle.rules.specs.Runs.{Made, Run, run-from, run}
-use Rattle.rules.specs.Laws.{In, Exposures-cross, Runs-are-fair}
+use Rattle.rules.specs.Runs.{Made, run-from, run}
+use Rattle.rules.specs.Laws.{In, Runs-are-fair}
 use Rattle.rules.proofs.Refused.{after-call}
 use Rattle.rules.proofs.Fair.{Fair, Grown, between, in-append, found-number, entered-grown, ticked-grown}
-use Rattle.rules.proofs.Sound.{Sound, Board-sound, never, all-none, refused-none, sound-kept, entered-sound, ticked-sound}
+use Rattle.rules.proofs.Sound.{Sound, never, all-none, refused-none, sound-kept, entered-sound, ticked-sound}
 
 module _ (n : Session) where
   effect-sound : (places : ℕ) (s : State) (call : Call) → Sound n s → first (rules-of n places s call) ≡ None → Sound n (effect n s call .state)

@@ -1,21 +1,19 @@
 -- The closes that a step strikes are fair.
 use mathlib.Core.Path.{_≡_, refl, sym, ap, subst, _∙_}
-use mathlib.Core.Bool.{Bool, true, false, cond, not, _&&_}
-use mathlib.Core.List.{List, [], _∷_, _++_, append-assoc, append-nil, map}
+use mathlib.Core.Bool.{Bool, true, false, cond}
+use mathlib.Core.List.{List, [], _∷_, _++_, append-assoc, append-nil}
 use mathlib.Core.Logic.{_⊎_, inl, inr}
-use Prim.Native.Nat.{ℕ, _+_, _-_, _≤_, _<_}
+use Prim.Native.Nat.{ℕ, _<_}
 use native.Mathlib.Omega.{arith}
 use lib.Dec.{eqb, leb, ltb}
-use lib.ListN.{length, drop, set, length-set}
+use lib.ListN.{length, drop, length-set}
 use lib.Seq.{drop-append-seam}
-use Rattle.std.specs.shelf.Lists.{folded, kept-by}
+use Rattle.std.specs.shelf.Lists.{folded}
 use Rattle.std.proofs.shelf.Lists.{drop-all}
-use Rattle.std.proofs.shelf.Tests.{cases-bool, cases-eq, cond-both, cond-false, eqb-true, eqb-false, eq-eqb, ne-eqb, lt-ltb}
+use Rattle.std.proofs.shelf.Tests.{cases-bool, cond-both, cond-false, eqb-true, eqb-false, ne-eqb, lt-ltb}
 use Rattle.std.specs.declared.option.Option.{Option}
 use Rattle.std.specs.declared.option.Option.the-variants.{Some, None}
 use Rattle.market.specs.Meaning.{Meaning, Dearer}
-use Rattle.book.specs.declared.posting.Posting.{Posting}
-use Rattle.rules.specs.declared.calls.Answer.{Answer}
 use Rattle.rules.specs.declared.calls.Call.{Call}
 use Rattle.rules.specs.declared.calls.Call.the-variants.{Term, Limit, Block, Enter, Withdraw, Tick, Complain, Vote, Decide, Release, Settle}
 use Rattle.rules.specs.declared.calls.Entry.{Entry}
@@ -26,12 +24,11 @@ use Rattle.rules.specs.declared.offers.Paper.{Paper}
 use Rattle.rules.specs.declared.offers.Paper.the-variants.{Quiet, Exposed}
 use Rattle.rules.specs.declared.offers.Side.{Side}
 use Rattle.rules.specs.declared.offers.Side.the-variants.{Buy, Sell}
-use Rattle.rules.specs.declared.refusal.Refusal.{Refusal}
-use Rattle.rules.specs.State.{Session, State, put, with-clock, seconds}
-use Rattle.rules.specs.Board.{Pair, paired, pair-of, lesser, met, fewer, offer-of, no-offer, reduced}
+use Rattle.rules.specs.State.{Session, State, with-clock, seconds}
+use Rattle.rules.specs.Board.{Pair, paired, lesser, met, fewer, offer-of, reduced}
 use Rattle.rules.specs.Closing.{may-trade, close-at, struck}
 use Rattle.rules.specs.Entering.{Way, closes-with, closed-with, meet, through, offered, shown, begun, first-able, entered}
-use Rattle.rules.specs.Ticking.{exposed-pair, quieted, ended, due, all-due, after-lapses}
+use Rattle.rules.specs.Ticking.{exposed-pair, quieted, due, all-due, after-lapses}
 use Rattle.rules.specs.Ticking as ticking
 use Rattle.rules.specs.Refusals.{first}
 use Rattle.rules.specs.Steps.{rules-of, effect}

@@ -1,11 +1,11 @@
 -- The offers that an entry goes through.
 use mathlib.Core.Path.{_≡_, refl, sym, ap, subst, _∙_}
-use mathlib.Core.Bool.{Bool, true, false, cond, not, _&&_, _||_}
+use mathlib.Core.Bool.{Bool, true, false, _&&_, _||_}
 use mathlib.Core.List.{List, [], _∷_}
-use mathlib.Core.Logic.{_⊎_, inl, inr, ⊎-elim}
-use Prim.Native.Nat.{ℕ, _≤_, _<_}
+use mathlib.Core.Logic.{inl, inr}
+use Prim.Native.Nat.{ℕ}
 use native.Mathlib.Omega.{arith}
-use lib.Dec.{eqb, leb, ltb}
+use lib.Dec.{eqb, ltb}
 use Rattle.std.specs.shelf.Lists.{kept-by}
 use Rattle.std.proofs.shelf.Tests.{cases-bool}
 use Rattle.std.proofs.shelf.Ways.{tells}
@@ -13,7 +13,7 @@ use Rattle.market.specs.Meaning.{Meaning}
 use Rattle.rules.specs.declared.offers.Offer.{Offer}
 use Rattle.rules.specs.declared.offers.Side.{Side}
 use Rattle.rules.specs.declared.offers.Side.the-variants.{Buy, Sell}
-use Rattle.rules.specs.Board.{better, ahead, placed, best-first, meets, met, buys, cross, paired, pair-of}
+use Rattle.rules.specs.Board.{better, ahead, placed, best-first, meets, met, cross}
 use Rattle.rules.specs.Laws.{In, Ordered, Numbers-differ, Crosses, Met-before, Meets, Who-is-met, Memory-does-not-matter}
 use Rattle.rules.proofs.Lists.{in-kept, kept-in, kept-ordered, ordered-by, same-ordered}
 

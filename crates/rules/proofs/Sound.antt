@@ -1,9 +1,9 @@
 -- What holds of every state that calls lead to from a new session.
 use mathlib.Core.Path.{_≡_, refl, sym, ap, subst, _∙_}
-use mathlib.Core.Bool.{Bool, true, false, cond, not, _&&_, _||_}
+use mathlib.Core.Bool.{Bool, true, false, cond, not}
 use mathlib.Core.List.{List, [], _∷_, _++_, map, append-nil}
-use mathlib.Core.Logic.{_⊎_, inl, inr}
-use Prim.Native.Nat.{ℕ, _+_, _-_, _≤_, _<_}
+use mathlib.Core.Logic.{inl, inr}
+use Prim.Native.Nat.{ℕ, _+_, _≤_, _<_}
 use native.Mathlib.Omega.{arith}
 use lib.Dec.{eqb, leb, ltb}
 use Rattle.std.specs.shelf.Lists.{folded, kept-by}
@@ -14,26 +14,22 @@ use Rattle.rules.specs.declared.offers.Exposure.{Exposure}
 use Rattle.rules.specs.declared.offers.Offer.{Offer}
 use Rattle.rules.specs.declared.offers.Paper.{Paper}
 use Rattle.rules.specs.declared.offers.Paper.the-variants.{Quiet, Exposed}
-use Rattle.rules.specs.declared.closes.Close.{Close}
-use Rattle.rules.specs.declared.closes.Stage.{Stage}
-use Rattle.rules.specs.declared.calls.Answer.{Answer}
 use Rattle.rules.specs.declared.calls.Entry.{Entry}
 use Rattle.rules.specs.declared.offers.Side.{Side}
 use Rattle.rules.specs.declared.offers.Side.the-variants.{Buy, Sell}
 use Rattle.rules.specs.declared.refusal.Refusal.{Refusal}
-use Rattle.rules.specs.declared.refusal.Refusal.the-variants.{BadLots, NotBetter, PaperExposed, TermFixed}
-use Rattle.book.specs.declared.posting.Posting.{Posting}
+use Rattle.rules.specs.declared.refusal.Refusal.the-variants.{BadLots, NotBetter}
 use Rattle.std.specs.declared.option.Option.{Option}
 use Rattle.std.specs.declared.option.Option.the-variants.{Some, None}
-use Rattle.rules.specs.State.{Session, State, seconds, put, with-clock, with-closes, with-papers, with-offers, staged, at-stage, close-of, no-close}
-use Rattle.rules.specs.Board.{Pair, paired, pair-of, better, met, fewer, lesser, offer-of, reduced, without}
+use Rattle.rules.specs.State.{Session, State, seconds, put, with-clock, with-papers, with-offers}
+use Rattle.rules.specs.Board.{paired, pair-of, better, met, fewer, lesser, offer-of, reduced, without}
 use Rattle.rules.specs.Refusals.{refuse, first}
-use Rattle.rules.specs.Closing.{may-trade, struck}
+use Rattle.rules.specs.Closing.{may-trade}
 use Rattle.rules.specs.Entering.{Way, closes-with, closed-with, meet, through, offered, stand, first-able, begun, replaced, shown, exposed, entered, not-better, enter-rules}
-use Rattle.rules.specs.Ticking.{exposed-pair, quieted, quiet, lapses, after-lapses, due, all-due}
+use Rattle.rules.specs.Ticking.{exposed-pair, quiet, lapses, after-lapses, due, all-due}
 use Rattle.rules.specs.Ticking as ticking
-use Rattle.rules.specs.Laws.{In, Ordered, Numbers-differ, Crosses, Crossing, Shown-well, Exposures-cross}
-use Rattle.rules.proofs.Lists.{in-kept, kept-in, kept-ordered}
+use Rattle.rules.specs.Laws.{In, Numbers-differ, Crosses, Crossing, Shown-well, Exposures-cross}
+use Rattle.rules.proofs.Lists.{in-kept, kept-ordered}
 use Rattle.rules.proofs.Meeting.{met-crosses}
 use Rattle.rules.proofs.Fair.{in-append, same-number, passed-over, cross-struck, cross-void, paired-crosses, found-number}
 

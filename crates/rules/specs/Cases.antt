@@ -1,11 +1,9 @@
 -- The worked cases.
 use mathlib.Core.Path.{_≡_}
-use mathlib.Core.Bool.{Bool, true, false}
 use mathlib.Core.List.{List, [], _∷_, _++_, map}
 use Prim.Native.Nat.{ℕ, _^_}
 use Rattle.std.specs.declared.result.Result.{Result}
-use Rattle.std.specs.declared.result.Result.the-variants.{Ok, Err}
-use Rattle.market.specs.Meaning.{Meaning}
+use Rattle.std.specs.declared.result.Result.the-variants.{Ok}
 use Rattle.market.specs.Makes.{price, rate, interbank}
 use Rattle.rules.specs.declared.calls.Answer.{Answer}
 use Rattle.rules.specs.declared.calls.Answer.the-variants.{Done, Entered, Ticked}
@@ -14,7 +12,6 @@ use Rattle.rules.specs.declared.calls.Call.the-variants.{Limit, Enter, Tick}
 use Rattle.rules.specs.declared.calls.ExposureTime.{ExposureTime}
 use Rattle.rules.specs.declared.calls.ExposureTime.the-variants.{Zero, Ten}
 use Rattle.rules.specs.declared.closes.Close.{Close}
-use Rattle.rules.specs.declared.offers.Side.{Side}
 use Rattle.rules.specs.declared.offers.Side.the-variants.{Buy, Sell}
 use Rattle.rules.specs.declared.refusal.Refusal.{Refusal}
 use Rattle.rules.specs.State.{Session}

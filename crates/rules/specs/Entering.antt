@@ -1,13 +1,13 @@
 -- Entering an offer.
-use mathlib.Core.Bool.{Bool, true, false, cond, not, _&&_, _||_}
+use mathlib.Core.Bool.{Bool, cond, not, _&&_, _||_}
 use mathlib.Core.List.{List, [], _∷_, _++_}
-use Prim.Native.Nat.{ℕ, _+_, _-_, _*_}
+use Prim.Native.Nat.{ℕ, _+_, _*_}
 use lib.Dec.{eqb, leb, ltb}
 use lib.ListN.{length}
 use Rattle.std.specs.shelf.Lists.{folded}
 use Rattle.std.specs.declared.option.Option.{Option}
 use Rattle.std.specs.declared.option.Option.the-variants.{Some, None}
-use Rattle.market.specs.Meaning.{Meaning, between}
+use Rattle.market.specs.Meaning.{between}
 use Rattle.book.specs.declared.posting.Posting.{Posting}
 use Rattle.rules.specs.declared.calls.Entry.{Entry}
 use Rattle.rules.specs.declared.offers.Exposure.{Exposure}
@@ -19,7 +19,7 @@ use Rattle.rules.specs.declared.offers.Side.the-variants.{Buy, Sell}
 use Rattle.rules.specs.declared.refusal.Refusal.{Refusal}
 use Rattle.rules.specs.declared.refusal.Refusal.the-variants.{NoHouse, NoPaper, BadLots, BadQuote, BadLapse, OutOfHours, NotBetter, BoardFull, TapeFull, NoRoom, NoNumber}
 use Rattle.rules.specs.State.{Session, State, seconds, put, with-offers, with-papers, numbered, live-closes, posting}
-use Rattle.rules.specs.Board.{Pair, paired, met, better, offer-of, fewer, lesser}
+use Rattle.rules.specs.Board.{paired, met, better, offer-of, fewer, lesser}
 use Rattle.rules.specs.Refusals.{refuse, carried, first}
 use Rattle.rules.specs.Closing.{pair-fault, may-trade, close-at, struck}
 

@@ -7,7 +7,7 @@ use Rattle.rules.specs.declared.calls.Answer.{Answer}
 use Rattle.rules.specs.declared.calls.Call.{Call}
 use Rattle.rules.specs.declared.refusal.Refusal.{Refusal}
 use Rattle.rules.specs.State.{Session, State, new}
-use Rattle.rules.specs.Steps.{Outcome, step}
+use Rattle.rules.specs.Steps.{step}
 
 -- a call, and the places that the book has when it is made
 pub record Made : Type 0 where

@@ -1,8 +1,8 @@
 -- A step: from the state and a call to the answer, the next state and the postings made.
-use mathlib.Core.Bool.{Bool, true, false, cond, not, _&&_, _||_}
+use mathlib.Core.Bool.{cond, not, _||_}
 use mathlib.Core.List.{List, [], _∷_}
 use Prim.Native.Nat.{ℕ, _+_, _-_, _^_}
-use lib.Dec.{eqb, leb, ltb}
+use lib.Dec.{eqb, ltb}
 use lib.ListN.{length}
 use Rattle.std.specs.declared.option.Option.{Option}
 use Rattle.std.specs.declared.option.Option.the-variants.{Some, None}
@@ -17,7 +17,6 @@ use Rattle.rules.specs.declared.calls.Call.the-variants.{Term, Limit, Block, E
 use Rattle.rules.specs.declared.calls.CaseName.{CaseName}
 use Rattle.rules.specs.declared.calls.Entry.{Entry}
 use Rattle.rules.specs.declared.closes.Stage.the-variants.{UnderVote, Settled}
-use Rattle.rules.specs.declared.offers.Offer.{Offer}
 use Rattle.rules.specs.declared.refusal.Refusal.{Refusal}
 use Rattle.rules.specs.declared.refusal.Refusal.the-variants.{NoHouse, OneHouse, NoPaper, LimitOrDays, TermFixed, NoOffer, PaperExposed}
 use Rattle.rules.specs.State.{Session, State, put, with-days, with-limit, with-blocked, with-offers, credit, posting, close-of, staged}

@@ -2,8 +2,7 @@
 use mathlib.Core.Bool.{Bool, true, false, cond, not, _&&_, _||_}
 use mathlib.Core.List.{List, [], _∷_, _++_}
 use Prim.Native.Nat.{ℕ, _+_}
-use lib.Dec.{eqb, leb, ltb}
-use lib.ListN.{length}
+use lib.Dec.{leb, ltb}
 use Rattle.std.specs.shelf.Lists.{folded, kept-by}
 use Rattle.std.specs.declared.option.Option.{Option}
 use Rattle.book.specs.declared.posting.Posting.{Posting}

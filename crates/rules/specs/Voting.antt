@@ -12,7 +12,7 @@ use Rattle.rules.specs.declared.closes.Stage.{Stage}
 use Rattle.rules.specs.declared.closes.Stage.the-variants.{Live, UnderVote, Annulled, Settled}
 use Rattle.rules.specs.declared.refusal.Refusal.{Refusal}
 use Rattle.rules.specs.declared.refusal.Refusal.the-variants.{NoHouse, OutOfHours, NoClose, BadJury, NoParty, WrongStage, NoCase, NoVote, Undecided}
-use Rattle.rules.specs.State.{Session, State, recorded, close-of, held}
+use Rattle.rules.specs.State.{Session, State, recorded, close-of}
 use Rattle.rules.specs.Refusals.{refuse}
 use Rattle.rules.specs.Entering.{out-of-hours}
 

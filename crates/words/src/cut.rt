@@ -1,6 +1,6 @@
 ghost use mathlib.Core.Path.{_≡_};
-ghost use Prim.Native.Nat.{ℕ, _+_, _*_, _-_, _^_, _<_, _≤_};
-ghost use lib.ListN.{length, take, drop};
+ghost use Prim.Native.Nat.{_+_, _*_, _-_, _<_};
+ghost use lib.ListN.{length, drop};
 ghost use Rattle.std.specs.Options.{Cases, mapped};
 ghost use Rattle.words.specs.declared.mark.Mark.the-variants.{LineEnd};
 ghost use Rattle.words.specs.Words.{is, before, from, word, after, next-line, after-line, digit, number};

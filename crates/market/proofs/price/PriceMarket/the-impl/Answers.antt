@@ -1,4 +1,3 @@
-use Prim.Native.Nat.{_*_, _≤_}
 use native.Mathlib.Omega.{arith}
 use native.Mathlib.Nat.{mul-le-mul-left, mul-le-mul}
 use Rattle.market.specs.Makes.{price}
