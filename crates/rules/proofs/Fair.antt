@@ -103,13 +103,14 @@ module _ (n : Session) (s : State) where
       (λ t. (u .0, u .1, grown-struck (w .state) (paired (w .offer) o) (o .quote) (paired-crosses (e .side) e (w .offer) o (u .0) (u .1) (c o (inl refl))) (u .2)))
       (λ f. u))
 
-  begun-grown : (o : Offer) (found : Option Offer) → (begun n s o found .days ≡ s .days) × (begun n s o found .closes ≡ s .closes)
-  begun-grown o None = (refl, refl)
-  begun-grown o (Some standing) = (refl, refl)
+  -- what is shown changes, and nothing else does
+  begun-keeps : (o : Offer) (found : Option Offer) → (begun n s o found .offers ≡ s .offers) × (begun n s o found .accepted ≡ s .accepted) × (begun n s o found .days ≡ s .days) × (begun n s o found .closes ≡ s .closes)
+  begun-keeps o None = (refl, refl, refl, refl)
+  begun-keeps o (Some standing) = (refl, refl, refl, refl)
 
-  shown-grown : (o : Offer) (x : Paper) → (shown n s o x .days ≡ s .days) × (shown n s o x .closes ≡ s .closes)
-  shown-grown o Quiet = begun-grown o (first-able n s o (met m o (s .offers)))
-  shown-grown o (Exposed x) = (refl, refl)
+  pub shown-keeps : (o : Offer) (x : Paper) → (shown n s o x .offers ≡ s .offers) × (shown n s o x .accepted ≡ s .accepted) × (shown n s o x .days ≡ s .days) × (shown n s o x .closes ≡ s .closes)
+  shown-keeps o Quiet = begun-keeps o (first-able n s o (met m o (s .offers)))
+  shown-keeps o (Exposed x) = (refl, refl, refl, refl)
 
   pub entered-grown : (e : Entry) → Grown m s (entered n s e .state)
   entered-grown e = elim (cases-bool (eqb (seconds (n .settings .exposure)) 0)) [
@@ -119,8 +120,8 @@ module _ (n : Session) (s : State) where
         rw t (grown-like (through n s o .state) _ refl refl
         (way-grown o (met m o (s .offers)) w (λ p i. met-crosses m o (s .offers) p i .1) (refl, refl, grown-none s refl refl)))
     | inr u ↦
-        let h = shown-grown (offered s e) (s .papers (e .paper)) in
-        rw u (grown-none _ (h .0) (h .1))
+        let h = shown-keeps (offered s e) (s .papers (e .paper)) in
+        rw u (grown-none _ (h .2) (h .3))
   ]
 
 pub same-number : (b : Bool) (lots : ℕ) (o : Offer) → cond b (fewer lots o) o .number ≡ o .number

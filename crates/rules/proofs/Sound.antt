@@ -31,7 +31,7 @@ use Rattle.rules.specs.Ticking as ticking
 use Rattle.rules.specs.Laws.{In, Numbers-differ, Crosses, Crossing, Shown-well, Exposures-cross}
 use Rattle.rules.proofs.Lists.{in-kept, kept-ordered}
 use Rattle.rules.proofs.Meeting.{met-crosses}
-use Rattle.rules.proofs.Fair.{in-append, same-number, passed-over, cross-struck, cross-void, paired-crosses, found-number}
+use Rattle.rules.proofs.Fair.{in-append, same-number, passed-over, cross-struck, cross-void, paired-crosses, found-number, shown-keeps}
 
 -- the standing offers: each has lots, a number already given out, and no two have one number
 pub record Board-sound (accepted : ℕ) (offers : List Offer) : Type 0 where
@@ -309,17 +309,10 @@ module _ (n : Session) (s : State) (o : Offer) (h : Sound n s) (is : o .number �
       (a .buy-paper) (a .buy-lots) (sym number) refl
       (record { above = omega arith; below = omega (arith, a .crossing .above, a .crossing .below, ltb-true _ _ up) }) (λ q. refl) refl
 
-  begun-same : (found : Option Offer) → (begun n s o found .offers ≡ s .offers) × (begun n s o found .accepted ≡ s .accepted)
-  begun-same None = (refl, refl)
-  begun-same (Some p) = (refl, refl)
-
   shown-cross : (x : Paper) → s .papers (o .paper) ≡ x → not-better n s o x ≡ None → Exposures-cross n (stand o (shown n s o x))
   shown-cross Quiet e up = begun-cross (first-able n s o (met (n .market) o (s .offers))) refl
   shown-cross (Exposed x) e up = replaced-cross (o .side) x e (not-false _ (refused-none _ NotBetter up))
 
-  shown-same : (x : Paper) → (shown n s o x .offers ≡ s .offers) × (shown n s o x .accepted ≡ s .accepted)
-  shown-same Quiet = begun-same (first-able n s o (met (n .market) o (s .offers)))
-  shown-same (Exposed x) = (refl, refl)
 
 -- no rule of a list refuses
 abbrev pub All-none : List (Option Refusal) → Type 0
@@ -348,7 +341,7 @@ module _ (n : Session) (s : State) (h : Sound n s) where
       → Sound n (stand o (shown n s o (s .papers (o .paper))))
   exposed-sound o is some up timed =
       let x = s .papers (o .paper) in
-      let same = shown-same n s o h is some x in
+      let same = shown-keeps n s o x in
       record {
         board = stand-board _ _ o (is ∙ ap (λ (k : ℕ). k + 1) (sym (same .1)))
             (subst (λ (k : ℕ). Board-sound k (shown n s o x .offers)) (sym (same .1)) (subst (Board-sound (s .accepted)) (sym (same .0)) (h .board)));
