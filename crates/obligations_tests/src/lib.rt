@@ -3,6 +3,8 @@ use blotter::Entry;
 use blotter::Field;
 use blotter::Flaw;
 use blotter::read;
+use clerk::Stop;
+use clerk::StopDisplay;
 use journal::Journal;
 use journal::JournalBook;
 use ledger::Ledger;
@@ -170,5 +172,24 @@ mod tests {
         }
         check(matches!(day.take(sale), Err(book::Refusal::NoPlace)))?;
         check_eq((day.balance(1, 0), day.cash(1)), (256, -768))
+    }
+
+    #[test]
+    fn errors_name_line_and_cause(rt: LibcRuntime) -> Result<(), Fail> {
+        let heap = rt.alloc();
+        let flawed = Stop::Flawed(3, Flaw::Trade(trades::Flaw::Quote(5_000)));
+        check(format!(heap, "{flawed}")?.as_str() == "line 3: quote is not from 1 to 5000")?;
+        let missing = Stop::Flawed(1, Flaw::Missing(Field::Days));
+        check(format!(heap, "{missing}")?.as_str() == "line 1: days is missing")?;
+        let full = Stop::NotPosted(257, book::Refusal::NoPlace);
+        check(
+            format!(heap, "{full}")?.as_str()
+                == "line 257: refused with 28: the book has no place left",
+        )?;
+        let limit = Stop::NotSet(8, lines::Refusal::BadLimit);
+        check(
+            format!(heap, "{limit}")?.as_str()
+                == "line 8: refused with 9: the limit is below what is used, or above 10^15",
+        )
     }
 }

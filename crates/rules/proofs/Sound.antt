@@ -313,7 +313,6 @@ module _ (n : Session) (s : State) (o : Offer) (h : Sound n s) (is : o .number â
   shown-cross Quiet e up = begun-cross (first-able n s o (met (n .market) o (s .offers))) refl
   shown-cross (Exposed x) e up = replaced-cross (o .side) x e (not-false _ (refused-none _ NotBetter up))
 
-
 -- no rule of a list refuses
 abbrev pub All-none : List (Option Refusal) â†’ Type 0
 All-none [] = Unit {0}
