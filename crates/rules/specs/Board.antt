@@ -9,9 +9,11 @@ use Rattle.rules.specs.declared.offers.Offer.{Offer}
 use Rattle.rules.specs.declared.offers.Side.{Side}
 use Rattle.rules.specs.declared.offers.Side.the-variants.{Buy, Sell}
 
-abbrev pub buys : Side → Bool
-buys Buy = true
-buys Sell = false
+abbrev pub opposite : Side → Side → Bool
+opposite Buy Buy = false
+opposite Buy Sell = true
+opposite Sell Buy = true
+opposite Sell Sell = false
 
 -- a buy and a sell of one paper
 pub record Pair : Type 0 where
@@ -35,8 +37,7 @@ cross m p = leb (m .rank (p .sell .quote)) (m .rank (p .buy .quote))
 
 -- the entering offer goes to this standing offer: of its paper, of the other side, and crossing it
 abbrev pub meets : Meaning → (entering standing : Offer) → Bool
-meets m entering standing =
-    eqb (standing .paper) (entering .paper) && (cond (buys (standing .side)) (not (buys (entering .side))) (buys (entering .side)) && cross m (paired entering standing))
+meets m entering standing = eqb (standing .paper) (entering .paper) && (opposite (entering .side) (standing .side) && cross m (paired entering standing))
 
 -- a rank is better than another for a side: higher for buys, lower for sells
 abbrev pub better : Side → (rank other : ℕ) → Bool
