@@ -1,4 +1,4 @@
--- What is known of a posting that is not refused. Assumes nothing.
+-- What is known of a posting that is not refused.
 use mathlib.Core.Path.{_≡_}
 use mathlib.Core.Bool.{true}
 use Prim.Native.Nat.{ℕ, _<_, _≤_}

@@ -1,4 +1,4 @@
--- The two laws of every book. Assumes nothing.
+-- The two laws of every book.
 use mathlib.Core.Path.{_≡_, refl, sym, subst, _∙_}
 use mathlib.Core.List.{List, [], _∷_, _++_}
 use mathlib.Core.Bool.{Bool, true, false, cond}

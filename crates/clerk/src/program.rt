@@ -25,7 +25,10 @@ enum Keeping {
 fn input(rt: &LibcRuntime, path: Option<String>) -> Result<Vec<u8>, Stop> {
     if let Some(path) = path {
         if path.as_str() != "-" {
-            return Ok(fs::read(rt, path.as_str())?);
+            return match fs::read(rt, path.as_str()) {
+                Ok(bytes) => Ok(bytes),
+                Err(e) => Err(Stop::Unread(path, e)),
+            };
         }
     }
     let mut bytes = Vec::new(rt.alloc());

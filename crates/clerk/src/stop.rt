@@ -7,6 +7,8 @@ use std::io;
 #[derive(Drop)]
 pub enum Stop {
     Io(io::Error),
+    // A file that could not be read.
+    Unread(String, io::Error),
     // The second argument names no book.
     NoBook,
     // A line, counted from 1, and what is wrong with it.
@@ -97,6 +99,7 @@ pub impl fmt::Display for Stop as StopDisplay {
     fn fmt<W: fmt::Write>(&self, f: &mut fmt::Formatter<W>) -> fmt::Result {
         match self {
             Stop::Io(e) => write!(f, "{e}"),
+            Stop::Unread(path, e) => write!(f, "{path}: {e}"),
             Stop::NoBook => f.write_str("the book is neither journal nor net"),
             Stop::Flawed(at, flaw) => write!(f, "line {at}: {}", OfLine(*flaw)),
             Stop::NotPosted(at, refusal) => {

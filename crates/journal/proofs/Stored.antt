@@ -1,4 +1,4 @@
--- What stored postings add up to. Assumes nothing.
+-- What stored postings add up to.
 use mathlib.Core.Path.{_≡_, refl, sym, ap, subst, _∙_}
 use mathlib.Core.List.{List}
 use mathlib.Core.Logic.{_⊎_, inl, inr}

@@ -1,4 +1,4 @@
--- What is read from a table of two houses, and what a write to it changes. Assumes nothing.
+-- What is read from a table of two houses, and what a write to it changes.
 use mathlib.Core.Path.{_≡_, sym, ap, _∙_}
 use mathlib.Core.Bool.{Bool, true, false, cond, _&&_}
 use mathlib.Core.List.{List, [], _∷_, map}

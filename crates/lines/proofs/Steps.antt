@@ -1,4 +1,4 @@
--- What one write makes of a line's used amount, and what freeing makes of a use. Assumes nothing.
+-- What one write makes of a line's used amount, and what freeing makes of a use.
 use mathlib.Core.Path.{_≡_}
 use mathlib.Core.Bool.{Bool, true, false, cond, _&&_, _||_}
 use Prim.Native.Nat.{ℕ, _+_, _-_, _≤_}

@@ -1,4 +1,4 @@
--- Credit between houses: lines in pesos, and blocks. Assumes nothing.
+-- Credit between houses: lines in pesos, and blocks.
 use mathlib.Core.Path.{_≡_}
 use mathlib.Core.Bool.{Bool, false, cond, _&&_}
 use Prim.Native.Nat.{ℕ, _+_, _-_}

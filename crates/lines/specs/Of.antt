@@ -1,4 +1,4 @@
--- What the tables of lines and blocks mean. Assumes nothing.
+-- What the tables of lines and blocks mean.
 use mathlib.Core.Bool.{false, cond}
 use mathlib.Core.List.{List, map}
 use Prim.Native.Nat.{ℕ, _+_, _*_}

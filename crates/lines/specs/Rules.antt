@@ -1,4 +1,4 @@
--- The rules of credit: who may trade, what is refused, and in which order. Assumes nothing.
+-- The rules of credit: who may trade, what is refused, and in which order.
 use mathlib.Core.Path.{_≡_}
 use mathlib.Core.Bool.{Bool, true, false, cond, _&&_, _||_, not}
 use mathlib.Core.List.{List, [], _∷_}

@@ -1,4 +1,4 @@
--- What a posting does to the figures of a net sheet. Assumes nothing.
+-- What a posting does to the figures of a net sheet.
 use mathlib.Core.Path.{_≡_, refl, sym, ap, subst, _∙_}
 use mathlib.Core.List.{List}
 use mathlib.Core.Logic.{_⊎_, inl, inr, ⊎-elim}
