@@ -9,21 +9,24 @@ use Rattle.rules.specs.declared.offers.Offer.{Offer}
 use Rattle.rules.specs.declared.offers.Side.{Side}
 use Rattle.rules.specs.declared.offers.Side.the-variants.{Buy, Sell}
 
+-- a buy and a sell
 abbrev pub opposite : Side → Side → Bool
 opposite Buy Buy = false
 opposite Buy Sell = true
 opposite Sell Buy = true
 opposite Sell Sell = false
 
--- a buy and a sell of one paper
+-- two offers that may close: a buy and a sell of one paper
 pub record Pair : Type 0 where
   pub buy : Offer
   pub sell : Offer
 
+-- an entering offer of a side, with a standing one
 abbrev pub pair-of : Side → (entering standing : Offer) → Pair
 pair-of Buy entering standing = record { buy = entering; sell = standing }
 pair-of Sell entering standing = record { buy = standing; sell = entering }
 
+-- the same, by the entering offer's own side
 abbrev pub paired : (entering standing : Offer) → Pair
 paired entering standing = pair-of (entering .side) entering standing
 
@@ -49,10 +52,12 @@ abbrev pub ahead : Meaning → Offer → Offer → Bool
 ahead m o p =
     better (o .side) (m .rank (o .quote)) (m .rank (p .quote)) || (eqb (m .rank (o .quote)) (m .rank (p .quote)) && ltb (o .number) (p .number))
 
+-- an offer among others that are in this order
 abbrev pub placed : Meaning → Offer → List Offer → List Offer
 placed m o [] = o ∷ []
 placed m o (p ∷ ps) = cond (ahead m o p) (o ∷ p ∷ ps) (p ∷ placed m o ps)
 
+-- offers in this order
 abbrev pub best-first : Meaning → List Offer → List Offer
 best-first m [] = []
 best-first m (o ∷ os) = placed m o (best-first m os)
@@ -61,21 +66,25 @@ best-first m (o ∷ os) = placed m o (best-first m os)
 abbrev pub met : Meaning → (entering : Offer) → List Offer → List Offer
 met m entering offers = best-first m (kept-by (meets m entering) offers)
 
--- the offer of that number
+-- the offer that is read where none of a number stands
 abbrev pub no-offer : Offer
 no-offer = record { number = 0; house = 0; side = Buy; paper = 0; lots = 0; quote = 0; lapse = 0 }
 
+-- the offer of a number
 abbrev pub offer-of : (number : ℕ) → List Offer → Offer
 offer-of number [] = no-offer
 offer-of number (o ∷ os) = cond (eqb (o .number) number) o (offer-of number os)
 
+-- an offer of that number stands
 abbrev pub stands : (number : ℕ) → List Offer → Bool
 stands number [] = false
 stands number (o ∷ os) = eqb (o .number) number || stands number os
 
+-- the other offers
 abbrev pub without : (number : ℕ) → List Offer → List Offer
 without number = kept-by (λ o. not (eqb (o .number) number))
 
+-- the offer with so many lots less
 abbrev pub fewer : (lots : ℕ) → Offer → Offer
 fewer lots o = record { number = o .number; house = o .house; side = o .side; paper = o .paper; lots = o .lots - lots; quote = o .quote; lapse = o .lapse }
 

@@ -19,6 +19,7 @@ worth n s p price = n .market .value (lesser p) price (s .days (p .buy .paper))
 abbrev pub pair-fault : Session → State → Pair → (price : ℕ) → Option Fault
 pair-fault n s p price = fault (credit n s) (n .market .pledges) (p .buy .house) (p .sell .house) (worth n s p price)
 
+-- it may
 abbrev pub may-trade : Session → State → Pair → (price : ℕ) → Bool
 may-trade n s p price = not (isSome (pair-fault n s p price))
 

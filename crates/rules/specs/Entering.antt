@@ -31,14 +31,15 @@ out-of-hours s = ltb (s .clock) 28800 || leb 54000 (s .clock)
 abbrev pub offered : State → Entry → Offer
 offered s e = record { number = s .accepted + 1; house = e .house; side = e .side; paper = e .paper; lots = e .lots; quote = e .quote; lapse = e .lapse }
 
--- the exposed offer of a side, and that of the other
+-- the exposed offer of a side
 abbrev pub exposed : Side → Exposure → State → Offer
 exposed Buy x s = offer-of (x .buy) (s .offers)
 exposed Sell x s = offer-of (x .sell) (s .offers)
 
-abbrev pub other-exposed : Side → Exposure → State → Offer
-other-exposed Buy x s = offer-of (x .sell) (s .offers)
-other-exposed Sell x s = offer-of (x .buy) (s .offers)
+-- the other side
+abbrev pub other : Side → Side
+other Buy = Sell
+other Sell = Buy
 
 -- in an exposed paper: it must rank strictly better than its side's exposed offer
 abbrev pub not-better : Session → State → Offer → Paper → Option Refusal
@@ -48,8 +49,9 @@ not-better n s o (Exposed x) = refuse (not (better (o .side) (n .market .rank (o
 -- and be able to trade with the other exposed offer, at its own quote
 abbrev pub unable : Session → State → Offer → Paper → Option Refusal
 unable n s o Quiet = None
-unable n s o (Exposed x) = carried (pair-fault n s (paired o (other-exposed (o .side) x s)) (o .quote))
+unable n s o (Exposed x) = carried (pair-fault n s (paired o (exposed (other (o .side)) x s)) (o .quote))
 
+-- why an entry is refused, tried from the top
 abbrev pub enter-rules : Session → (places : ℕ) → State → Entry → List (Option Refusal)
 enter-rules n places s e =
     refuse (ltb 15 (e .house)) NoHouse
@@ -86,6 +88,7 @@ closed-with n w standing =
 abbrev pub closes-with : Session → Way → Offer → Bool
 closes-with n w standing = ltb 0 (w .offer .lots) && may-trade n (w .state) (paired (w .offer) standing) (standing .quote)
 
+-- it meets one of them
 abbrev pub meet : Session → Way → Offer → Way
 meet n w standing = cond (closes-with n w standing) (closed-with n w standing) w
 

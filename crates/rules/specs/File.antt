@@ -22,6 +22,7 @@ groups (suc most) n = cond (ltb n 128) (n ∷ []) ((n % 128 + 128) ∷ groups mo
 abbrev pub number : ℕ → List ℕ
 number n = groups 10 n
 
+-- 0 live, 1 under vote, 2 annulled, 3 settled
 abbrev pub stage-number : Stage → ℕ
 stage-number (Live heard) = 0
 stage-number (UnderVote hearing) = 1
@@ -32,6 +33,7 @@ stage-number Settled = 3
 abbrev pub entry : (n : ℕ) → Close → List ℕ
 entry n c = joined number (n ∷ c .buyer ∷ c .seller ∷ c .paper ∷ c .lots ∷ c .price ∷ c .value ∷ stage-number (c .stage) ∷ [])
 
+-- closes, numbered on
 abbrev pub entries : (from : ℕ) → List Close → List ℕ
 entries from [] = []
 entries from (c ∷ cs) = entry from c ++ entries (from + 1) cs

@@ -13,6 +13,7 @@ use Rattle.book.specs.declared.posting.Refusal.the-variants as posting
 use Rattle.rules.specs.declared.refusal.Refusal.{Refusal}
 use Rattle.rules.specs.declared.refusal.Refusal.the-variants.{NoHouse, OneHouse, NoPaper, BadLots, BadQuote, BadLapse, BadClock, OutOfHours, LimitOrDays, TermFixed, NoOffer, NoClose, PaperExposed, NotBetter, MayNotTrade, BoardFull, TapeFull, NoRoom, NoNumber, BadJury, NoParty, WrongStage, NoCase, NoVote, Undecided, PageShort, BadPosting, NoPlace}
 
+-- case by case
 abbrev pub told : Refusal → ℕ × List ℕ
 told NoHouse = (1, [])
 told OneHouse = (2, [])

@@ -20,6 +20,7 @@ pub record Run : Type 0 where
   pub state : State
   pub postings : List Posting
 
+-- call after call, from a state
 abbrev pub run-from : Session → State → List Made → Run
 run-from n s [] = record { answers = []; state = s; postings = [] }
 run-from n s (made ∷ more) =
@@ -27,5 +28,6 @@ run-from n s (made ∷ more) =
     let r = run-from n (o .state) more in
     record { answers = o .answer ∷ r .answers; state = r .state; postings = o .postings ++ r .postings }
 
+-- from a new session
 abbrev pub run : Session → List Made → Run
 run n calls = run-from n new calls

@@ -53,6 +53,7 @@ new = record { clock = 0; days = λ _. 0; blocked = λ _ _. false; limit = λ _ 
 abbrev pub put : {X : Type 0} → (k : ℕ) → X → (ℕ → X) → ℕ → X
 put k x f j = cond (eqb j k) x (f j)
 
+-- the state with one part changed
 abbrev pub with-clock : ℕ → State → State
 with-clock x s = record { clock = x; days = s .days; blocked = s .blocked; limit = s .limit; offers = s .offers; papers = s .papers; closes = s .closes; accepted = s .accepted }
 
@@ -104,6 +105,7 @@ live (UnderVote hearing) = true
 live (Annulled buyer seller) = false
 live Settled = false
 
+-- how many there are
 abbrev pub live-closes : State → ℕ
 live-closes s = countBy (λ c. live (c .stage)) (s .closes)
 
@@ -111,6 +113,7 @@ live-closes s = countBy (λ c. live (c .stage)) (s .closes)
 abbrev pub posting : Close → Posting
 posting c = record { buyer = c .buyer; seller = c .seller; paper = c .paper; lots = c .lots; pesos = c .value }
 
+-- the sum of f over a list
 abbrev pub total : {X : Type 0} → (X → ℤ) → List X → ℤ
 total f [] = pos 0
 total f (x ∷ xs) = f x +ℤ total f xs
@@ -126,6 +129,7 @@ cash s house = total (λ c. when (live (c .stage)) (cash-added (posting c) house
 abbrev pub no-close : Close
 no-close = record { buyer = 0; seller = 0; buy = 0; sell = 0; paper = 0; lots = 0; price = 0; bid = 0; ask = 0; value = 0; stage = Live false }
 
+-- there is a close of that number
 abbrev pub recorded : State → (close : ℕ) → Bool
 recorded s close = leb 1 close && leb close (length (s .closes))
 
@@ -133,6 +137,7 @@ recorded s close = leb 1 close && leb close (length (s .closes))
 abbrev pub close-of : State → (close : ℕ) → Close
 close-of s close = getD (s .closes) (close - 1) no-close
 
+-- the close at a stage
 abbrev pub at-stage : Stage → Close → Close
 at-stage stage c = record { buyer = c .buyer; seller = c .seller; buy = c .buy; sell = c .sell; paper = c .paper; lots = c .lots; price = c .price; bid = c .bid; ask = c .ask; value = c .value; stage = stage }
 

@@ -32,6 +32,7 @@ pub record Effect : Type 0 where
   pub state : State
   pub postings : List Posting
 
+-- what any call answers, the state after it, and the postings that it makes
 pub record Outcome : Type 0 where
   pub answer : Result Answer Refusal
   pub state : State
@@ -42,6 +43,7 @@ abbrev pub unless : Option Refusal → State → Effect → Outcome
 unless None s e = record { answer = Ok (e .answer); state = e .state; postings = e .postings }
 unless (Some refusal) s e = record { answer = Err refusal; state = s; postings = [] }
 
+-- why days are not set
 abbrev pub term-rules : State → (paper days : ℕ) → List (Option Refusal)
 term-rules s paper days = refuse (ltb 7 paper) NoPaper ∷ refuse (ltb 365 days) LimitOrDays ∷ refuse (ltb 0 (s .accepted)) TermFixed ∷ []
 
@@ -49,10 +51,12 @@ term-rules s paper days = refuse (ltb 7 paper) NoPaper ∷ refuse (ltb 365 days)
 abbrev pub pair-rules : (house other : ℕ) → List (Option Refusal) → List (Option Refusal)
 pair-rules house other more = refuse (ltb 15 house || ltb 15 other) NoHouse ∷ refuse (eqb house other) OneHouse ∷ more
 
+-- why a limit is not set
 abbrev pub limit-rules : Session → State → (granter counterparty pesos : ℕ) → List (Option Refusal)
 limit-rules n s granter counterparty pesos =
     pair-rules granter counterparty (refuse (ltb pesos (credit n s .used granter counterparty) || ltb (10 ^ 15) pesos) LimitOrDays ∷ [])
 
+-- why an offer is not taken off
 abbrev pub withdraw-rules : State → (house offer : ℕ) → List (Option Refusal)
 withdraw-rules s house offer =
     let o = offer-of offer (s .offers) in
@@ -126,5 +130,6 @@ effect n s (Release house close) = record { answer = Done; state = staged close 
 -- posts the close back, and frees its lines
 effect n s (Settle close) = record { answer = Done; state = staged close Settled s; postings = posted-back s close ∷ [] }
 
+-- a call: the first rule that it breaks refuses it, and else it has its effect
 abbrev pub step : Session → (places : ℕ) → State → Call → Outcome
 step n places s call = unless (first (rules-of n places s call)) s (effect n s call)

@@ -13,10 +13,13 @@ use Rattle.rules.specs.declared.offers.Paper.the-variants.{Quiet, Exposed}
 use Rattle.rules.specs.declared.refusal.Refusal.{Refusal}
 use Rattle.rules.specs.declared.refusal.Refusal.the-variants.{BadClock}
 use Rattle.rules.specs.State.{Session, State, put, with-clock, with-offers, with-papers, posting}
-use Rattle.rules.specs.Board.{Pair, offer-of}
+use Rattle.rules.specs.declared.offers.Side.the-variants.{Buy, Sell}
+use Rattle.rules.specs.Board.{Pair}
 use Rattle.rules.specs.Refusals.{refuse}
+use Rattle.rules.specs.Entering.{exposed}
 use Rattle.rules.specs.Closing.{may-trade, close-at, struck}
 
+-- why a tick is refused
 abbrev pub tick-rules : State → (clock : ℕ) → List (Option Refusal)
 tick-rules s clock = refuse (ltb clock (s .clock) || ltb 86399 clock) BadClock ∷ []
 
@@ -27,9 +30,11 @@ pub record Tick : Type 0 where
   pub voids : ℕ
   pub postings : List Posting
 
+-- the two offers that are shown
 abbrev pub exposed-pair : State → Exposure → Pair
-exposed-pair s x = record { buy = offer-of (x .buy) (s .offers); sell = offer-of (x .sell) (s .offers) }
+exposed-pair s x = record { buy = exposed Buy x s; sell = exposed Sell x s }
 
+-- a paper shows nothing more
 abbrev pub quieted : (paper : ℕ) → State → State
 quieted paper s = with-papers (put paper Quiet (s .papers)) s
 
@@ -63,6 +68,7 @@ all-due n s =
     folded (λ t paper. due n t paper (t .state .papers paper)) (record { state = s; closes = 0; voids = 0; postings = [] })
     (0 ∷ 1 ∷ 2 ∷ 3 ∷ 4 ∷ 5 ∷ 6 ∷ 7 ∷ [])
 
+-- a paper shows nothing
 abbrev pub quiet : Paper → Bool
 quiet Quiet = true
 quiet (Exposed x) = false
@@ -71,12 +77,14 @@ quiet (Exposed x) = false
 abbrev pub lapses : State → Offer → Bool
 lapses s o = ltb 0 (o .lapse) && (leb (o .lapse) (s .clock) && quiet (s .papers (o .paper)))
 
--- first the exposures that are due end, then offers lapse
+-- the clock is set, and the exposures that are due end
 abbrev pub ticked : Session → State → (clock : ℕ) → Tick
 ticked n s clock = all-due n (with-clock clock s)
 
+-- then offers lapse: these
 abbrev pub lapsed : State → List Offer
 lapsed s = kept-by (lapses s) (s .offers)
 
+-- and the others stay
 abbrev pub after-lapses : State → State
 after-lapses s = with-offers (kept-by (λ o. not (lapses s o)) (s .offers)) s

@@ -16,18 +16,22 @@ use Rattle.rules.specs.State.{Session, State, recorded, close-of}
 use Rattle.rules.specs.Refusals.{refuse}
 use Rattle.rules.specs.Entering.{out-of-hours}
 
+-- a house is among these
 abbrev pub has : List ℕ → (house : ℕ) → Bool
 has [] house = false
 has (h ∷ hs) house = eqb h house || has hs house
 
+-- one of these is above
 abbrev pub some-above : (most : ℕ) → List ℕ → Bool
 some-above most [] = false
 some-above most (h ∷ hs) = ltb most h || some-above most hs
 
+-- two of these are alike
 abbrev pub some-alike : List ℕ → Bool
 some-alike [] = false
 some-alike (h ∷ hs) = has hs h || some-alike hs
 
+-- a house is the buyer or the seller
 abbrev pub party : Close → (house : ℕ) → Bool
 party c house = eqb (c .buyer) house || eqb (c .seller) house
 
@@ -38,6 +42,7 @@ unheard (UnderVote hearing) = false
 unheard (Annulled buyer seller) = false
 unheard Settled = false
 
+-- why a complaint is refused
 abbrev pub complain-rules : State → (house close : ℕ) (jury : List ℕ) → List (Option Refusal)
 complain-rules s house close jury =
     refuse (ltb 15 house || some-above 15 jury) NoHouse
@@ -56,6 +61,7 @@ heard-by jury clock = UnderVote (record { jury = jury; yes = 0; no = 0; end = cl
 abbrev pub voted : (mask house : ℕ) → Bool
 voted mask house = eqb (mask / 2 ^ house % 2) 1
 
+-- the hearing that is read where a close is not under vote
 abbrev pub no-hearing : Hearing
 no-hearing = record { jury = []; yes = 0; no = 0; end = 0 }
 
@@ -66,6 +72,7 @@ hearing-at (UnderVote hearing) = hearing
 hearing-at (Annulled buyer seller) = no-hearing
 hearing-at Settled = no-hearing
 
+-- the close is under vote
 abbrev pub under-vote : Stage → Bool
 under-vote (Live heard) = false
 under-vote (UnderVote hearing) = true
@@ -76,9 +83,11 @@ under-vote Settled = false
 abbrev pub no-case : Session → State → CaseName → Bool
 no-case n s c = not (eqb (c .session) (n .settings .number)) || (not (recorded s (c .close)) || not (under-vote (close-of s (c .close) .stage)))
 
+-- the hearing that a case is about
 abbrev pub hearing-of : State → CaseName → Hearing
 hearing-of s c = hearing-at (close-of s (c .close) .stage)
 
+-- why a vote is refused
 abbrev pub vote-rules : Session → State → CaseName → (juror : ℕ) → List (Option Refusal)
 vote-rules n s c juror =
     let h = hearing-of s c in
@@ -95,6 +104,7 @@ with-vote h juror aye = record { jury = h .jury; yes = h .yes + cond aye (2 ^ ju
 abbrev pub votes : Hearing → (mask : ℕ) → ℕ
 votes h mask = countBy (voted mask) (h .jury)
 
+-- why a decision is refused
 abbrev pub decide-rules : Session → State → CaseName → List (Option Refusal)
 decide-rules n s c =
     let h = hearing-of s c in
@@ -106,6 +116,7 @@ decide-rules n s c =
 abbrev pub annulled : Hearing → Bool
 annulled h = leb 3 (votes h (h .yes))
 
+-- the stage that the close then comes to
 abbrev pub decided : Hearing → Stage
 decided h = cond (annulled h) (Annulled false false) (Live true)
 
@@ -116,6 +127,7 @@ releasable pledges c house (UnderVote hearing) = false
 releasable pledges c house (Annulled buyer seller) = cond (eqb (c .buyer) house) (pledges .0 && not buyer) (pledges .1 && not seller)
 releasable pledges c house Settled = false
 
+-- why a release is refused
 abbrev pub release-rules : Session → State → (house close : ℕ) → List (Option Refusal)
 release-rules n s house close =
     refuse (ltb 15 house) NoHouse
@@ -131,12 +143,14 @@ released c house (UnderVote hearing) = UnderVote hearing
 released c house (Annulled buyer seller) = cond (eqb (c .buyer) house) (Annulled true seller) (Annulled buyer true)
 released c house Settled = Settled
 
+-- the close is live and not under vote
 abbrev pub at-live : Stage → Bool
 at-live (Live heard) = true
 at-live (UnderVote hearing) = false
 at-live (Annulled buyer seller) = false
 at-live Settled = false
 
+-- why a settlement is refused
 abbrev pub settle-rules : State → (close : ℕ) → List (Option Refusal)
 settle-rules s close =
     refuse (not (recorded s close)) NoClose
