@@ -1,4 +1,6 @@
 //! The text side of `obligations`: what a line of its input tells, and the lines that it prints.
+#![tactic(auto)]
+
 mod entry;
 mod reading;
 mod shown;

@@ -1,4 +1,6 @@
 //! A book: the lots of each paper and the cash of each house, changed by postings alone.
+#![tactic(auto)]
+
 ghost use Rattle.std.specs.Prelude.{◌≡◌, ◌^◌, ◌<◌};
 ghost use Rattle.book.specs.Sheet.{Sheet, ZeroOutside, Posts};
 

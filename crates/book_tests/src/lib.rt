@@ -1,4 +1,6 @@
 //! The tests of `book`, `journal` and `net_sheet`.
+#![tactic(auto)]
+
 ghost use Rattle.book.specs.Laws.{Balanced};
 ghost use Rattle.journal.specs.Meaning.{journal_sheet};
 ghost use Rattle.net_sheet.specs.Meaning.{net_sheet};

@@ -1,4 +1,6 @@
 //! The work of `obligations`: reads the input, keeps the ledger and prints.
+#![tactic(auto)]
+
 mod day;
 mod program;
 mod stop;

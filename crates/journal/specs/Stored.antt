@@ -1,5 +1,5 @@
 -- What stored postings add up to.
-use Rattle.std.specs.Prelude.{◌≡◌, ℕ, zero, suc, ◌+◌, ◌-◌, ◌<◌, ◌≤◌, true, ◌⊎◌, List, length, take, ℤ, pos, ◌+ℤ◌, neg_ℤ, ◌≤ℤ◌, slice_index_or, slice_set, refl}
+use Rattle.std.specs.Prelude.{◌≡◌, ℕ, zero, suc, ◌+◌, ◌-◌, ◌^◌, ◌<◌, ◌≤◌, true, ◌⊎◌, List, length, take, ℤ, pos, ◌+ℤ◌, neg_ℤ, ◌≤ℤ◌, slice_index_or, slice_set, refl}
 use Rattle.std.proofs.Common.{sym, ap, subst, ◌∙◌, inl, inr, add-one, arith, get_or-set_same, get_or-set_other}
 use Rattle.std.proofs.lemmas.List.{take_more_set, length-take-le, get_or-take}
 use Rattle.std.proofs.lemmas.Int.{ints}
@@ -58,3 +58,13 @@ lots_beyond x h p e (inr far) = let ok = accepted x e in grind (arith, ints, nat
 
 pub cash_beyond : (x : Posting) (h : ℕ) → acceptable x ≡ true → 16 ≤ h → cash_added x h ≡ pos 0
 cash_beyond x h e far = let ok = accepted x e in grind (arith, ints, nat_tests)
+
+-- what is no house or no paper has nothing of the postings in use
+pub lots_outside : (xs : List Posting) (n : ℕ) → length xs ≡ 256 → n ≤ 256 → Sound n xs → (h p : ℕ) → (16 ≤ h) ⊎ (8 ≤ p) → added_up (λ x. lots_added x h p) (take n xs) ≡ pos 0
+lots_outside xs n wide few s h p far = added_up_none (λ x. lots_added x h p) xs n (omega arith) (λ k lt. lots_beyond (slice_index_or xs k blank) h p (s k lt) far)
+
+pub cash_outside : (xs : List Posting) (n : ℕ) → length xs ≡ 256 → n ≤ 256 → Sound n xs → (h : ℕ) → 16 ≤ h → added_up (λ x. cash_added x h) (take n xs) ≡ pos 0
+cash_outside xs n wide few s h far = added_up_none (λ x. cash_added x h) xs n (omega arith) (λ k lt. cash_beyond (slice_index_or xs k blank) h (s k lt) far)
+
+pub places_fit : (count : ℕ) → 256 - count < 2 ^ 32
+places_fit count = omega arith

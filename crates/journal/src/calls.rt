@@ -1,10 +1,8 @@
-ghost use Rattle.std.specs.Prelude.{◌≡◌, ◌+◌, ◌<◌, ◌≤◌, true, length, slice_index_or};
+ghost use Rattle.std.specs.Prelude.{◌≡◌, ◌+◌, ◌<◌, ◌≤◌, true, length};
 ghost use Rattle.book.specs.Sheet.{Clear, Posted, Posts, TakesPlace, acceptable, moved, lots_added, cash_added};
 ghost use Rattle.journal.specs.Kept.{Sound};
 ghost use Rattle.journal.specs.Meaning.{account_added, added_up, journal_sheet};
-ghost use Rattle.std.proofs.Common.{arith, rules};
-ghost use Rattle.journal.specs.Kept;
-ghost use Rattle.journal.specs.Stored.{added_up_none, lots_beyond, cash_beyond};
+ghost use Rattle.journal.specs.Stored.{lots_outside, cash_outside, places_fit};
 
 use super::{Account, Journal};
 use book::{Book, Posting, Refusal};
@@ -84,13 +82,12 @@ impl Journal {
 impl Book for Journal {
     ghost sheet = { journal_sheet };
 
-    ghost outside = { λ b.
-        record {
-          lots = λ h p far. added_up_none (λ x. lots_added x h p) b.postings b.count (omega (arith, b.few, b.wide)) (λ k lt. lots_beyond (slice_index_or b.postings k Kept.blank) h p (b.sound k lt) far);
-          cash = λ h far. added_up_none (λ x. cash_added x h) b.postings b.count (omega (arith, b.few, b.wide)) (λ k lt. cash_beyond (slice_index_or b.postings k Kept.blank) h (b.sound k lt) far);
-        } };
+    ghost outside = { λ b. record {
+      lots = lots_outside b.postings b.count b.wide b.few b.sound;
+      cash = cash_outside b.postings b.count b.wide b.few b.sound;
+    } };
 
-    ghost counted = { first_of (Prim.search rules, Prim.grind (arith, Self.row.coded.inj)) };
+    ghost counted = { λ b. places_fit b.count };
 
     fn post(&mut self, posting: Posting) -> Result<(), Refusal>
         ensures posts { Posts (journal_sheet self.old) posting result (journal_sheet self.new) }

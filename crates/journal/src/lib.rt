@@ -1,4 +1,6 @@
 //! A book that keeps every posting, and adds them up when asked.
+#![tactic(auto)]
+
 ghost use Rattle.std.specs.Prelude.{◌≡◌, ◌≤◌, length};
 ghost use Rattle.journal.specs.Kept.{Sound};
 

@@ -1,4 +1,6 @@
 //! A day's ledger: lines, once any is set, say which trades are posted to the book.
+#![tactic(auto)]
+
 mod calls;
 mod outcome;
 

@@ -1,4 +1,6 @@
 //! Credit lines on examples whose figures were worked out by hand.
+#![tactic(auto)]
+
 #[cfg(test)]
 mod tests {
     use lines::{Fault, LessUsed, Lines, Refusal};

@@ -1,12 +1,12 @@
 -- A market's range facts and its law, from its two formulas.
 use Rattle.std.specs.Prelude.{◌≡◌, ℕ, ◌+◌, ◌*◌, ◌/◌, ◌≤◌, Bool, true, nat_le}
-use Rattle.std.proofs.Common.{inl, inr, arith, mul-le-mul_left, div-mul-le_self}
+use Rattle.std.proofs.Common.{inl, inr, arith, mul-le-mul, mul-le-mul_left, mul-le-mul_right, div-mul-le_self}
 use Rattle.std.proofs.Math.Nat.{div-le_of_le-mul}
 use Rattle.std.proofs.lemmas.Nat.{le-div}
 use Rattle.std.proofs.lemmas.Bool.{leb-true, and_parts, cond-false, cases_Bool}
 use Rattle.std.proofs.lemmas.Bool.Decides.{nat_tests}
 use Rattle.market.specs.Meaning.{Ranged, Dearer, between, tradable}
-use Rattle.market.specs.Makes.{market, nearest}
+use Rattle.market.specs.Makes.{market, nearest, price, rate, interbank}
 
 pub record Inside (highest lots quote days : ℕ) : Type 0 where
   pub some_lots : 1 ≤ lots
@@ -74,3 +74,40 @@ nearest_mono less more h = grind (arith, nat_tests)
 
 pub nearest_whole : (amount units : ℕ) → amount ≤ units * 3650000 → nearest amount 3650000 ≤ units
 nearest_whole amount units h = grind (arith, nat_tests)
+
+-- what each market shows of itself
+pub price_ranged : Ranged price
+price_ranged =
+    ranged 200000 _ _ price.pledges (omega arith) (omega arith) (λ q least most. (least, omega arith))
+    (λ l q d i. (mul-le-mul i.some_lots i.least, omega (arith, mul-le-mul_left l i.most)))
+
+pub price_dearer : Dearer price
+price_dearer = dearer 200000 _ _ price.pledges (λ q least most. (least, omega arith)) (λ l d q o i j r. mul-le-mul_left l r)
+
+pub rate_ranged : Ranged rate
+rate_ranged =
+    ranged 5000 _ _ rate.pledges (omega arith) (omega arith) (λ q least most. (omega arith, omega arith))
+    (λ l q d i.
+    let lot = lot_bounds (q * d) (mul-le-mul i.most i.year) in
+    (mul-le-mul i.some_lots lot.0, omega (arith, mul-le-mul_left l lot.1)))
+
+pub rate_dearer : Dearer rate
+rate_dearer =
+    dearer 5000 _ _ rate.pledges (λ q least most. (omega arith, omega arith))
+    (λ l d q o i j r.
+    let lower : q ≤ o = omega (arith, i.most, j.most) in
+    mul-le-mul_left l (lot_falls (q * d) (o * d) (mul-le-mul_right d lower)))
+
+pub interbank_ranged : Ranged interbank
+interbank_ranged =
+    ranged 5000 _ _ interbank.pledges (omega arith) (omega arith) (λ q least most. (least, omega arith))
+    (λ l q d i.
+    let half : l * 100000 * (q * d) ≤ l * 100000 * 1825000 = mul-le-mul_left (l * 100000) (mul-le-mul i.most i.year) in
+    let interest = nearest_whole (l * 100000 * (q * d)) (l * 50000) (omega (arith, half)) in
+    (omega (arith, i.some_lots), omega (arith, interest)))
+
+pub interbank_dearer : Dearer interbank
+interbank_dearer =
+    dearer 5000 _ _ interbank.pledges (λ q least most. (least, omega arith))
+    (λ l d q o i j r.
+    omega (arith, nearest_mono (l * 100000 * (o * d)) (l * 100000 * (q * d)) (mul-le-mul_left (l * 100000) (mul-le-mul_right d r))))

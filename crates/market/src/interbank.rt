@@ -1,8 +1,6 @@
-ghost use Rattle.std.specs.Prelude.{◌≡◌, ◌*◌, ◌≤◌};
+ghost use Rattle.std.specs.Prelude.{◌≡◌};
 ghost use Rattle.market.specs.Makes.{interbank, nearest};
-ghost use Rattle.std.proofs.Common.{arith, mul-le-mul_left, mul-le-mul, mul-le-mul_right};
-ghost use Rattle.market.specs.Formulas;
-ghost use Rattle.market.specs.Formulas.{nearest_whole, nearest_mono};
+ghost use Rattle.market.specs.Formulas.{interbank_ranged, interbank_dearer};
 
 use super::Market;
 use super::ranges::{LOT, WHOLE, quoted, valued};
@@ -28,17 +26,9 @@ fn interest(amount: u64) -> u64
 impl Market for Interbank {
     ghost meaning = { λ _. interbank };
 
-    ghost ranged = { λ m.
-        Formulas.ranged 5000 _ _ interbank.pledges (omega arith) (omega arith) (λ q least most. (least, omega arith))
-        (λ l q d i.
-        let half : l * 100000 * (q * d) ≤ l * 100000 * 1825000 = mul-le-mul_left (l * 100000) (mul-le-mul i.most i.year) in
-        let interest = nearest_whole (l * 100000 * (q * d)) (l * 50000) (omega (arith, half)) in
-        (omega (arith, i.some_lots), omega (arith, interest))) };
+    ghost ranged = { λ m. interbank_ranged };
 
-    ghost dearer = { λ m.
-        Formulas.dearer 5000 _ _ interbank.pledges (λ q least most. (least, omega arith))
-        (λ l d q o i j r.
-        omega (arith, nearest_mono (l * 100000 * (o * d)) (l * 100000 * (q * d)) (mul-le-mul_left (l * 100000) (mul-le-mul_right d r)))) };
+    ghost dearer = { λ m. interbank_dearer };
 
     fn lowest(&self) -> u32 {
         1

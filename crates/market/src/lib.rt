@@ -1,4 +1,6 @@
 //! A market: which quotes it takes, how it ranks them, what they are worth, and who pledges a line.
+#![tactic(auto)]
+
 ghost use Rattle.std.specs.Prelude.{◌≡◌};
 ghost use Rattle.market.specs.Meaning.{Meaning, Ranged, Dearer};
 

@@ -1,6 +1,5 @@
 ghost use Rattle.market.specs.Makes.{price};
-ghost use Rattle.std.proofs.Common.{arith, mul-le-mul_left, mul-le-mul};
-ghost use Rattle.market.specs.Formulas;
+ghost use Rattle.market.specs.Formulas.{price_ranged, price_dearer};
 
 use super::Market;
 use super::ranges::{quoted, valued};
@@ -14,11 +13,9 @@ const HIGHEST: u32 = 200_000;
 impl Market for Price {
     ghost meaning = { λ _. price };
 
-    ghost ranged = { λ m.
-        Formulas.ranged 200000 _ _ price.pledges (omega arith) (omega arith) (λ q least most. (least, omega arith))
-        (λ l q d i. (mul-le-mul i.some_lots i.least, omega (arith, mul-le-mul_left l i.most))) };
+    ghost ranged = { λ m. price_ranged };
 
-    ghost dearer = { λ m. Formulas.dearer 200000 _ _ price.pledges (λ q least most. (least, omega arith)) (λ l d q o i j r. mul-le-mul_left l r) };
+    ghost dearer = { λ m. price_dearer };
 
     fn lowest(&self) -> u32 {
         1

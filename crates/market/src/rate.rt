@@ -1,8 +1,5 @@
 ghost use Rattle.market.specs.Makes.{rate};
-ghost use Rattle.std.specs.Prelude.{◌*◌, ◌≤◌};
-ghost use Rattle.std.proofs.Common.{arith, mul-le-mul_left, mul-le-mul, mul-le-mul_right};
-ghost use Rattle.market.specs.Formulas;
-ghost use Rattle.market.specs.Formulas.{lot_bounds, lot_falls};
+ghost use Rattle.market.specs.Formulas.{rate_ranged, rate_dearer};
 
 use super::Market;
 use super::ranges::{LOT, WHOLE, quoted, valued};
@@ -16,17 +13,9 @@ const HIGHEST: u32 = 5_000;
 impl Market for Rate {
     ghost meaning = { λ _. rate };
 
-    ghost ranged = { λ m.
-        Formulas.ranged 5000 _ _ rate.pledges (omega arith) (omega arith) (λ q least most. (omega arith, omega arith))
-        (λ l q d i.
-        let lot = lot_bounds (q * d) (mul-le-mul i.most i.year) in
-        (mul-le-mul i.some_lots lot.0, omega (arith, mul-le-mul_left l lot.1))) };
+    ghost ranged = { λ m. rate_ranged };
 
-    ghost dearer = { λ m.
-        Formulas.dearer 5000 _ _ rate.pledges (λ q least most. (omega arith, omega arith))
-        (λ l d q o i j r.
-        let lower : q ≤ o = omega (arith, i.most, j.most) in
-        mul-le-mul_left l (lot_falls (q * d) (o * d) (mul-le-mul_right d lower))) };
+    ghost dearer = { λ m. rate_dearer };
 
     fn lowest(&self) -> u32 {
         1

@@ -1,4 +1,6 @@
 //! Figures of the three markets, worked by hand, at every edge of every range.
+#![tactic(auto)]
+
 use market::{Interbank, Market, Price, Rate};
 
 #[cfg(test)]

@@ -88,3 +88,9 @@ none_held n h p = ap (λ (x : ℤ). when (nat_lt p 8) x) (none_there n (h * 8 + 
 pub row_past : (xs : List ℤ) (h p : ℕ) → length xs ≡ 128 → (16 ≤ h) ⊎ (8 ≤ p) → when (nat_lt p 8) (slice_index_or xs (h * 8 + p) (pos 0)) ≡ pos 0
 row_past xs h p l (inl far) = ap (when (nat_lt p 8)) (get_or_past xs (h * 8 + p) (pos 0) (omega arith)) ∙ cond_same (nat_lt p 8)
 row_past xs h p l (inr far) = cond-false _ (slice_index_or xs (h * 8 + p) (pos 0)) (pos 0) (le-ltb p 8 far)
+
+pub cash_past : (xs : List ℤ) (h : ℕ) → length xs ≡ 16 → 16 ≤ h → slice_index_or xs h (pos 0) ≡ pos 0
+cash_past xs h l far = get_or_past xs h (pos 0) (omega arith)
+
+pub places_fit : (places : ℕ) → places ≤ 1000000 → places < 2 ^ 32
+places_fit places few = omega arith

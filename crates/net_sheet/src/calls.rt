@@ -2,9 +2,7 @@ ghost use Rattle.std.specs.Prelude.{◌≡◌, ℕ, ◌+◌, ◌*◌, ◌^◌, �
 ghost use Rattle.book.specs.Sheet.{Clear, Posted, Posts, TakesPlace, acceptable, moved};
 ghost use Rattle.net_sheet.specs.Kept.{Within};
 ghost use Rattle.net_sheet.specs.Meaning.{net_sheet};
-ghost use Rattle.std.proofs.lemmas.List.{get_or_past};
-ghost use Rattle.std.proofs.Common.{arith, rules};
-ghost use Rattle.net_sheet.specs.Figures.{row_past};
+ghost use Rattle.net_sheet.specs.Figures.{row_past, cash_past, places_fit};
 
 use super::NetSheet;
 use book::{Book, HOUSES, PAPERS, Posting, Refusal};
@@ -84,13 +82,9 @@ impl NetSheet {
 impl Book for NetSheet {
     ghost sheet = { net_sheet };
 
-    ghost outside = { λ b.
-        record {
-          lots = λ h p far. row_past b.lots h p b.wide far;
-          cash = λ h far. get_or_past b.cash h (pos 0) (omega arith);
-        } };
+    ghost outside = { λ b. record { lots = λ h p. row_past b.lots h p b.wide; cash = λ h. cash_past b.cash h b.long } };
 
-    ghost counted = { first_of (Prim.search rules, Prim.grind (arith, Self.row.coded.inj)) };
+    ghost counted = { λ b. places_fit b.places b.few };
 
     fn post(&mut self, posting: Posting) -> Result<(), Refusal>
         ensures posts { Posts (net_sheet self.old) posting result (net_sheet self.new) }

@@ -1,4 +1,6 @@
 //! A book that keeps one figure for each balance.
+#![tactic(auto)]
+
 ghost use Rattle.std.specs.Prelude.{◌≡◌, ◌-◌, ◌*◌, ◌≤◌, length};
 ghost use Rattle.net_sheet.specs.Kept.{Within};
 

@@ -1,3 +1,5 @@
+#![tactic(auto)]
+
 use clerk::Stop;
 
 fn main(rt: HostRuntime) -> Result<(), Stop> {

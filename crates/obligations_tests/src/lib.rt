@@ -1,4 +1,6 @@
 //! What `obligations` makes of its lines, on figures worked by hand.
+#![tactic(auto)]
+
 use blotter::{Entry, Field, Flaw, read};
 use book::Book;
 use clerk::Stop;

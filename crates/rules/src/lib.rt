@@ -1,4 +1,6 @@
 //! The rules of a session: its vocabulary, and in `specs/` the rules themselves.
+#![tactic(auto)]
+
 mod calls;
 mod closes;
 mod laws;

@@ -1,4 +1,6 @@
 //! A trade: the checks on its figures, and its value in its market.
+#![tactic(auto)]
+
 mod figures;
 mod trade;
 

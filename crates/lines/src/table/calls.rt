@@ -64,7 +64,7 @@ impl Lines {
     // Each house with the same line on each other, and the same mark of a block.
     fn all(line: Line, block: bool) -> Lines
         ensures limit { (g k : ℕ) → (credit result).limit g k ≡ (if two_houses g k then line.limit else 0) }
-        ensures used { (g k : ℕ) → (credit result).used g k ≡ cond (two_houses g k) line.used 0 }
+        ensures used { (g k : ℕ) → (credit result).used g k ≡ (if two_houses g k then line.used else 0) }
         ensures blocked { (g k : ℕ) → (credit result).blocked g k ≡ (if two_houses g k then block else false) }
     {
         Lines {
@@ -103,7 +103,7 @@ impl Lines {
     // Writes a line; nothing where they are not two houses.
     fn put(&mut self, granter: u8, counterparty: u8, line: Line)
         ensures limit { (g k : ℕ) → (credit self.new).limit g k ≡ (if two_houses granter counterparty && is granter counterparty g k then line.limit else (credit self.old).limit g k) }
-        ensures used { (g k : ℕ) → (credit self.new).used g k ≡ cond (two_houses granter counterparty && is granter counterparty g k) line.used ((credit self.old).used g k) }
+        ensures used { (g k : ℕ) → (credit self.new).used g k ≡ (if two_houses granter counterparty && is granter counterparty g k then line.used else (credit self.old).used g k) }
         ensures blocked { (g k : ℕ) → (credit self.new).blocked g k ≡ (credit self.old).blocked g k }
     {
         if let Some(i) = place(granter, counterparty) {

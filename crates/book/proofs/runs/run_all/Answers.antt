@@ -4,7 +4,7 @@ use Rattle.book.specs.Laws.{Run, run_none}
 use Rattle.book.specs.declared.posting.Posting.{Posting}
 use Rattle.book.proofs.Laws.{run_take, always_balanced}
 use Rattle.book.proofs.runs.run_all.Goals as goal
-use Rattle.book.proofs.runs.run_all.Goals.{then-is-ok, else-is-ok}
+use Rattle.book.proofs.runs.run_all.Goals.{then-is_ok, else-is_ok}
 
 pub loop-posting-init : goal.loop-posting-init
 loop-posting-init g c = (omega arith, omega arith, run_none)
@@ -14,11 +14,11 @@ loop-posting-preserved g c =
     let inv = c.loop-posting.invariant in
     let lt = c.loop-posting-test.true in
     let more = run_take c.args.postings.now c.loop-posting.posting-index _ c.post.result lt inv.2 c.post.ensures.posts in
-    let test = c.is-ok.ensures.value in
-    let counted : (c.if-is-ok.accepted ≡ cond (is_ok c.post.result) (suc c.loop-posting.accepted) c.loop-posting.accepted) × (c.if-is-ok.accepted ≤ c.loop-posting.posting-index + 1) =
-    elim c.if-is-ok.branch [
-      | then-is-ok w ↦ (omega (arith, w.accepted-is, cond-true (is_ok c.post.result) (suc c.loop-posting.accepted) c.loop-posting.accepted (sym test ∙ w.if-is-ok.true)), omega (arith, w.accepted-is, inv.1))
-      | else-is-ok w ↦ (omega (arith, w.accepted-is, cond-false (is_ok c.post.result) (suc c.loop-posting.accepted) c.loop-posting.accepted (sym test ∙ w.if-is-ok.false)), omega (arith, w.accepted-is, inv.1))
+    let test = c.is_ok.ensures.value in
+    let counted : (c.if-is_ok.accepted ≡ cond (is_ok c.post.result) (suc c.loop-posting.accepted) c.loop-posting.accepted) × (c.if-is_ok.accepted ≤ c.loop-posting.posting-index + 1) =
+    elim c.if-is_ok.branch [
+      | then-is_ok w ↦ (omega (arith, w.accepted-is, cond-true (is_ok c.post.result) (suc c.loop-posting.accepted) c.loop-posting.accepted (sym test ∙ w.if-is_ok.true)), omega (arith, w.accepted-is, inv.1))
+      | else-is_ok w ↦ (omega (arith, w.accepted-is, cond-false (is_ok c.post.result) (suc c.loop-posting.accepted) c.loop-posting.accepted (sym test ∙ w.if-is_ok.false)), omega (arith, w.accepted-is, inv.1))
     ] in (
       omega (arith, lt),
       counted.1,

@@ -3,12 +3,16 @@ use Rattle.book.specs.Sheet.{lots_added, cash_added}
 use Rattle.journal.specs.Stored.{added_up_put, sound_put}
 use Rattle.journal.proofs.Journal.enter.Goals as goal
 
-pub invariant-of-self : goal.invariant-of-self
-invariant-of-self c =
+pub invariant_of-self : goal.invariant_of-self
+invariant_of-self c =
     let s = c.args.self.now in
     let x = c.args.posting in
     let room : s.count < length s.postings = omega (arith, c.requires.room, s.wide) in
-    (length-set s.postings s.count x ∙ s.wide, (omega (arith, c.requires.room), (sound_put s.postings s.count x room c.requires.allowed s.sound, tt)))
+    record {
+      wide = length-set s.postings s.count x ∙ s.wide;
+      few = omega (arith, c.requires.room);
+      sound = sound_put s.postings s.count x room c.requires.allowed s.sound;
+    }
 
 pub returns : goal.returns
 returns c =

@@ -8,8 +8,8 @@ transfer-requires c =
     let s = c.args.self.now in
     let ok = accepted c.args.posting c.requires.allowed in
     record {
-      to = omega (arith, ok.buyer, ok.paper, s.wide, c.figure_of_bought.ensures);
-      from = omega (arith, ok.seller, ok.paper, s.wide, c.figure_of_sold.ensures);
+      to = omega (arith, ok.buyer, ok.paper, s.wide, c.figure_of-bought.ensures);
+      from = omega (arith, ok.seller, ok.paper, s.wide, c.figure_of-sold.ensures);
       small = omega (arith, ok.lots);
       fits = within_less 1000000 s.lots s.places (omega arith) s.lots_fit;
     }
@@ -25,23 +25,19 @@ transfer-requires-2 c =
       fits = within_less 200000000000 s.cash s.places (omega arith) s.cash_fit;
     }
 
-pub invariant-of-self : goal.invariant-of-self
-invariant-of-self c =
+pub invariant_of-self : goal.invariant_of-self
+invariant_of-self c =
     let s = c.args.self.now in
     let x = c.args.posting in
-    let ok = accepted x c.requires.allowed in (
-      c.transfer.auto.figures ∙ s.wide,
-      (
-        c.transfer-2.auto.figures ∙ s.long,
-        (
-          omega (arith, s.few, c.place-taken-self.ensures),
-          (
-            within_moved 1000000 s.lots _ _ _ x.lots s.places c.place-taken-self.result (omega (arith, ok.lots)) c.place-taken-self.ensures s.few s.lots_fit c.transfer.ensures,
-            (within_moved 200000000000 s.cash _ _ _ x.pesos s.places c.place-taken-self.result ok.pesos c.place-taken-self.ensures s.few s.cash_fit c.transfer-2.ensures, tt),
-          ),
-        ),
-      ),
-    )
+    let ok = accepted x c.requires.allowed in
+    record {
+      wide = c.transfer.auto.figures ∙ s.wide;
+      long = c.transfer-2.auto.figures ∙ s.long;
+      few = omega (arith, s.few, c.place_taken-self.ensures);
+      lots_fit =
+          within_moved 1000000 s.lots _ _ _ x.lots s.places c.place_taken-self.result (omega (arith, ok.lots)) c.place_taken-self.ensures s.few s.lots_fit c.transfer.ensures;
+      cash_fit = within_moved 200000000000 s.cash _ _ _ x.pesos s.places c.place_taken-self.result ok.pesos c.place_taken-self.ensures s.few s.cash_fit c.transfer-2.ensures;
+    }
 
 pub returns : goal.returns
 returns c =
@@ -50,9 +46,9 @@ returns c =
     let ok = accepted x c.requires.allowed in
     record {
       posted = record {
-        lots = row_held s.lots c.transfer.new.figures x.buyer x.seller x.paper x.lots ok.paper c.figure_of_bought.ensures c.figure_of_sold.ensures c.transfer.ensures;
+        lots = row_held s.lots c.transfer.new.figures x.buyer x.seller x.paper x.lots ok.paper c.figure_of-bought.ensures c.figure_of-sold.ensures c.transfer.ensures;
         cash = c.transfer-2.ensures;
-        places = inr c.place-taken-self.ensures;
+        places = inr c.place_taken-self.ensures;
       };
-      place = c.place-taken-self.ensures;
+      place = c.place_taken-self.ensures;
     }

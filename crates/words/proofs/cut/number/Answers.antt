@@ -9,31 +9,31 @@ use Rattle.words.proofs.cut.number.Goals as goal
 digit_small : (b : ℕ) → digit b ≡ true → b - 48 ≤ 9
 digit_small b h = grind (arith, nat_tests)
 
-pub overflow-mul-n : goal.overflow-mul-n
-overflow-mul-n c = omega (arith, fits c.loop-b.n c.loop-b.b-index 0 c.loop-b.invariant.2 (omega arith) (omega arith))
+pub overflow_mul-n : goal.overflow_mul-n
+overflow_mul-n c = omega (arith, fits c.loop-b.n c.loop-b.b-index 0 c.loop-b.invariant.2 (omega arith) (omega arith))
 
-pub overflow-add-n : goal.overflow-add-n
-overflow-add-n c =
+pub overflow_add-n : goal.overflow_add-n
+overflow_add-n c =
     let b = get_or c.args.word.now c.loop-b.b-index 0 in
-    omega (arith, fits c.loop-b.n c.loop-b.b-index (b - 48) c.loop-b.invariant.2 (omega arith) (digit_small b (sym c.if-not-is-digit.ensures)))
+    omega (arith, fits c.loop-b.n c.loop-b.b-index (b - 48) c.loop-b.invariant.2 (omega arith) (digit_small b (sym c.if-not-is_digit.ensures)))
 
 pub loop-b-preserved : goal.loop-b-preserved
 loop-b-preserved c =
     let w = c.args.word.now in
     let i = c.loop-b.b-index in
     let b = get_or w i 0 in
-    let d : digit b ≡ true = sym c.if-not-is-digit.ensures in (
+    let d : digit b ≡ true = sym c.if-not-is_digit.ensures in (
       sym (read_more c.loop-b.n w i c.loop-b-test.true) ∙ c.loop-b.invariant.0,
       ap (λ (t : Bool). t && all_digits (drop (i + 1) w)) (sym d) ∙ sym (digits_more w i c.loop-b-test.true) ∙ c.loop-b.invariant.1,
       longer c.loop-b.n i (b - 48) c.loop-b.invariant.2 (digit_small b d),
     )
 
-pub returns-then-not-is-digit : goal.returns-then-not-is-digit
-returns-then-not-is-digit c =
+pub returns-then-not-is_digit : goal.returns-then-not-is_digit
+returns-then-not-is_digit c =
     let w = c.args.word.now in
     let i = c.loop-b.b-index in
     let more = digits_more w i c.loop-b-test.true in
-    let stop : digit (get_or w i 0) ≡ false = sym c.if-not-is-digit.ensures in
+    let stop : digit (get_or w i 0) ≡ false = sym c.if-not-is_digit.ensures in
     let none : all_digits w ≡ false = sym c.loop-b.invariant.1 ∙ more ∙ and_left (digit (get_or w i 0)) (all_digits (drop (i + 1) w)) stop in
     grind (arith, nat_tests)
 

@@ -15,10 +15,10 @@ returns c =
       sound = sound c.args.self.now;
     }
 
-pub returns-in-default : goal.returns-in-default
-returns-in-default c =
+pub returns-in_default : goal.returns-in_default
+returns-in_default c =
     let s = sound c.args.self.now in
     let g = c.args.granter in
     let k = c.args.counterparty in
-    let no = s.no_line g k c.in-default.ensures in
+    let no = s.no_line g k c.in_default.ensures in
     record { limit = sym no; used = omega (arith, no, s.within g k); sound = s }

@@ -3,8 +3,8 @@ use Rattle.market.specs.Meaning.{tradable}
 use Rattle.market.specs.Formulas.{inside}
 use Rattle.market.proofs.interbank.InterbankMarket.value.Goals as goal
 
-pub overflow-mul-principal-2 : goal.overflow-mul-principal-2
-overflow-mul-principal-2 c =
+pub overflow_mul-principal-2 : goal.overflow_mul-principal-2
+overflow_mul-principal-2 c =
     let fits : tradable 1 5000 c.args.lots c.args.quote c.args.days ≡ true = search rules in
     let i = inside 5000 c.args.lots c.args.quote c.args.days fits in
     let principal : c.args.lots * 100000 ≤ 100000000000 = omega (arith, i.few_lots) in
