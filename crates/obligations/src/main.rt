@@ -1,11 +1,12 @@
 #![tactic(auto)]
 
-use clerk::Stop;
+use std::io;
+use std::process::ExitCode;
 
-fn main(rt: HostRuntime) -> Result<(), Stop> {
-    let done = clerk::run(&rt);
-    if let Err(stop) = &done {
+fn main(rt: HostRuntime) -> io::Result<ExitCode> {
+    if let Err(stop) = clerk::run(&rt) {
         eprintln!(rt; "obligations: {stop}")?;
+        return Ok(ExitCode::FAILURE);
     }
-    done
+    Ok(ExitCode::SUCCESS)
 }

@@ -6,7 +6,7 @@ use Rattle.market.specs.Meaning.{Meaning}
 use Rattle.rules.specs.declared.offers.Offer.{Offer}
 use Rattle.rules.specs.declared.offers.Side.{Side}
 use Rattle.rules.specs.declared.offers.Side.TheVariants.{Buy, Sell}
-use Rattle.rules.specs.Board.{better, ahead, placed, best_first, meets, met, cross}
+use Rattle.rules.specs.Board.{better, ahead, placed, best_first, meets, met}
 use Rattle.rules.specs.Laws.{In, Ordered, NumbersDiffer, Crosses, MetBefore, Meets, WhoIsMet, MemoryDoesNotMatter}
 use Rattle.rules.proofs.Lists.{in_kept, kept_in, kept_ordered, ordered_by, same_ordered}
 

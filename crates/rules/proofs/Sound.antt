@@ -13,7 +13,7 @@ use Rattle.rules.specs.declared.offers.Side.TheVariants.{Buy, Sell}
 use Rattle.rules.specs.declared.refusal.Refusal.{Refusal}
 use Rattle.rules.specs.declared.refusal.Refusal.TheVariants.{BadLots, NotBetter}
 use Rattle.rules.specs.State.{Session, State, seconds, put, with_clock, with_papers, with_offers}
-use Rattle.rules.specs.Board.{paired, pair_of, better, met, fewer, lesser, offer_of, reduced, without}
+use Rattle.rules.specs.Board.{paired, pair_of, better, met, fewer, lesser, offer_of, reduced}
 use Rattle.rules.specs.Refusals.{refuse, first}
 use Rattle.rules.specs.Closing.{may_trade}
 use Rattle.rules.specs.Entering.{Way, closes_with, closed_with, meet, through, offered, stand, first_able, begun, replaced, shown, exposed, entered, not_better, enter_rules}

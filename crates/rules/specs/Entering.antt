@@ -13,7 +13,7 @@ use Rattle.rules.specs.declared.refusal.Refusal.{Refusal}
 use Rattle.rules.specs.declared.refusal.Refusal.TheVariants.{NoHouse, NoPaper, BadLots, BadQuote, BadLapse, OutOfHours, NotBetter, BoardFull, TapeFull, NoRoom, NoNumber}
 use Rattle.rules.specs.State.{Session, State, seconds, put, with_offers, with_papers, numbered, live_closes, posting}
 use Rattle.rules.specs.Board.{paired, met, better, offer_of, fewer, lesser}
-use Rattle.rules.specs.Refusals.{refuse, carried, first}
+use Rattle.rules.specs.Refusals.{refuse, carried}
 use Rattle.rules.specs.Closing.{pair_fault, may_trade, close_at, struck}
 
 -- offers enter, and closes are complained of, from 8:00 to 15:00
