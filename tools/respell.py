@@ -2,7 +2,7 @@
 """Respells this repository's own definitions and lemmas for today's Rattle; run once, at the top, after port.py.
 
 Words are joined by an underscore (`live-closes` becomes `live_closes`), and the parts of a type's or a fact's name are joined (`Who-is-met` becomes `WhoIsMet`).
-Names that the library or the check gives stay, and so do the functions of src/, strings, inputs and outputs. It stops, and writes nothing, where two names would fall together.
+Names that the library or the check gives stay, and so do the functions of src/, strings, inputs and outputs. It stops, and writes nothing, where two of these names would become one, and points at each that becomes a word which its crate has already.
 """
 
 import collections

@@ -1,4 +1,4 @@
--- What stored postings add up to.
+-- What stored postings add up to. All of it is proved here, and nothing is to be believed: it stands in specs/ since the laws of an impl can cite no other place.
 use Rattle.std.specs.Prelude.{◌≡◌, ℕ, zero, suc, ◌+◌, ◌-◌, ◌^◌, ◌<◌, ◌≤◌, true, ◌⊎◌, List, length, take, ℤ, pos, ◌+ℤ◌, neg_ℤ, ◌≤ℤ◌, slice_index_or, slice_set, refl}
 use Rattle.std.proofs.Common.{sym, ap, subst, ◌∙◌, inl, inr, add-one, arith, get_or-set_same, get_or-set_other}
 use Rattle.std.proofs.lemmas.List.{take_more_set, length-take-le, get_or-take}

@@ -1,5 +1,5 @@
 ghost use Rattle.std.specs.Prelude.{◌≡◌, ◌+◌, ◌<◌, ◌≤◌, true, length};
-ghost use Rattle.book.specs.Sheet.{Clear, Posted, Posts, TakesPlace, acceptable, moved, lots_added, cash_added};
+ghost use Rattle.book.specs.Sheet.{Clear, Posted, Posts, TakesPlace, acceptable, moved};
 ghost use Rattle.journal.specs.Kept.{Sound};
 ghost use Rattle.journal.specs.Meaning.{account_added, added_up, journal_sheet};
 ghost use Rattle.journal.specs.Stored.{lots_outside, cash_outside, places_fit};

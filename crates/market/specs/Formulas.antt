@@ -1,4 +1,4 @@
--- A market's range facts and its law, from its two formulas.
+-- A market's range facts and its law, from its two formulas. All of it is proved here, and nothing is to be believed: it stands in specs/ since the laws of an impl can cite no other place.
 use Rattle.std.specs.Prelude.{◌≡◌, ℕ, ◌+◌, ◌*◌, ◌/◌, ◌≤◌, Bool, true, nat_le}
 use Rattle.std.proofs.Common.{inl, inr, arith, mul-le-mul, mul-le-mul_left, mul-le-mul_right, div-mul-le_self}
 use Rattle.std.proofs.Math.Nat.{div-le_of_le-mul}

@@ -1,4 +1,4 @@
--- What a posting does to the figures of a net sheet.
+-- What a posting does to the figures of a net sheet. All of it is proved here, and nothing is to be believed: it stands in specs/ since the laws of an impl can cite no other place.
 use Rattle.std.specs.Prelude.{◌≡◌, ℕ, zero, suc, ◌+◌, ◌-◌, ◌*◌, ◌^◌, ◌<◌, ◌≤◌, Bool, true, false, cond, ◌⊎◌, List, length, get_or, replicate, ℤ, pos, ◌+ℤ◌, ◌-ℤ◌, ◌==◌, nat_lt, slice_index_or, slice_set, refl}
 use Rattle.std.proofs.Common.{sym, ap, subst, ◌∙◌, inl, inr, ⊎_elim, arith, suc-mul, mul-le-mul_right, sub-le, length-set, get_or-set_same, get_or-set_other}
 use Rattle.std.proofs.lemmas.List.{get_or_past}
