@@ -1,15 +1,13 @@
 ghost use Rattle.std.specs.Prelude.{◌≡◌};
-ghost use Rattle.market.specs.Makes.{interbank, nearest};
+ghost use Rattle.market.specs.Makes.{interbank_formulas, nearest};
 ghost use Rattle.market.specs.Formulas.{interbank_ranged, interbank_dearer};
 
-use super::Market;
-use super::ranges::{LOT, WHOLE, quoted, valued};
+use super::make::Make;
+use super::units::{LOT, WHOLE};
 
 // Quotes are yearly rates in basis points, at which the buyer borrows the lots.
 #[derive(Clone, Copy)]
 pub struct Interbank;
-
-const HIGHEST: u32 = 5_000;
 
 // The interest for an amount of pesos × basis points × days, to the nearest peso, halves up.
 fn interest(amount: u64) -> u64
@@ -23,34 +21,27 @@ fn interest(amount: u64) -> u64
     }
 }
 
-impl Market for Interbank {
-    ghost meaning = { λ _. interbank };
+impl Make for Interbank {
+    ghost formulas = { interbank_formulas };
 
-    ghost ranged = { λ m. interbank_ranged };
+    ghost ranged = { interbank_ranged };
 
-    ghost dearer = { λ m. interbank_dearer };
+    ghost dearer = { interbank_dearer };
 
-    fn lowest(&self) -> u32 {
-        1
+    fn highest_quote() -> u32 {
+        5_000
     }
 
-    fn highest(&self) -> u32 {
-        HIGHEST
+    fn rank_of(quote: u32) -> u32 {
+        quote
     }
 
-    fn rank(&self, quote: u32) -> u32 {
-        if quoted(quote, HIGHEST) { quote } else { 0 }
-    }
-
-    fn value(&self, lots: u32, quote: u32, days: u32) -> u64 {
-        if !valued(lots, quote, days, HIGHEST) {
-            return 0;
-        }
+    fn worth(lots: u32, quote: u32, days: u32) -> u64 {
         let principal = lots as u64 * LOT;
         principal + interest(principal * (quote as u64 * days as u64))
     }
 
-    fn pledges(&self) -> (bool, bool) {
+    fn sides_that_pledge() -> (bool, bool) {
         (false, true)
     }
 }

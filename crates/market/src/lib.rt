@@ -5,9 +5,10 @@ ghost use Rattle.std.specs.Prelude.{◌≡◌};
 ghost use Rattle.market.specs.Meaning.{Meaning, Ranged, Dearer};
 
 mod interbank;
+mod make;
 mod price;
-mod ranges;
 mod rate;
+mod units;
 
 pub use interbank::Interbank;
 pub use price::Price;

@@ -1,8 +1,8 @@
-ghost use Rattle.market.specs.Makes.{rate};
+ghost use Rattle.market.specs.Makes.{rate_formulas};
 ghost use Rattle.market.specs.Formulas.{rate_ranged, rate_dearer};
 
-use super::Market;
-use super::ranges::{LOT, WHOLE, quoted, valued};
+use super::make::Make;
+use super::units::{LOT, WHOLE};
 
 // Quotes are yearly rates in basis points: the higher the rate, the cheaper the paper.
 #[derive(Clone, Copy)]
@@ -10,37 +10,26 @@ pub struct Rate;
 
 const HIGHEST: u32 = 5_000;
 
-impl Market for Rate {
-    ghost meaning = { λ _. rate };
+impl Make for Rate {
+    ghost formulas = { rate_formulas };
 
-    ghost ranged = { λ m. rate_ranged };
+    ghost ranged = { rate_ranged };
 
-    ghost dearer = { λ m. rate_dearer };
+    ghost dearer = { rate_dearer };
 
-    fn lowest(&self) -> u32 {
-        1
-    }
-
-    fn highest(&self) -> u32 {
+    fn highest_quote() -> u32 {
         HIGHEST
     }
 
-    fn rank(&self, quote: u32) -> u32 {
-        if quoted(quote, HIGHEST) {
-            (HIGHEST + 1) - quote
-        } else {
-            0
-        }
+    fn rank_of(quote: u32) -> u32 {
+        (HIGHEST + 1) - quote
     }
 
-    fn value(&self, lots: u32, quote: u32, days: u32) -> u64 {
-        if !valued(lots, quote, days, HIGHEST) {
-            return 0;
-        }
+    fn worth(lots: u32, quote: u32, days: u32) -> u64 {
         lots as u64 * (LOT * WHOLE / (WHOLE + quote as u64 * days as u64))
     }
 
-    fn pledges(&self) -> (bool, bool) {
+    fn sides_that_pledge() -> (bool, bool) {
         (true, true)
     }
 }
