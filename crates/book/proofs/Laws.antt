@@ -8,7 +8,7 @@ use Rattle.book.specs.Sheet.{Sheet, Posted, Posts, when, moved, lots_added, cash
 use Rattle.book.specs.Laws.{Run, run_none, run_accepted, run_refused, over_houses, Balanced, AlwaysBalanced, TakenBack}
 use Rattle.book.specs.declared.posting.Posting.{Posting}
 use Rattle.book.specs.declared.posting.Refusal.{Refusal}
-use Rattle.book.proofs.Accepted.{Accepted, accepted, allowed}
+use Rattle.book.proofs.Bounds.{Bounds, bounds, allowed}
 
 over_none : (n : ℕ) (f : ℕ → ℤ) → ((h : ℕ) → f h ≡ pos 0) → over_houses n f ≡ pos 0
 over_none zero f e = refl
@@ -34,7 +34,7 @@ over_when : (b : Bool) (f : ℕ → ℤ) → over_houses 16 f ≡ pos 0 → over
 over_when true f e = e
 over_when false f e = over_none 16 (λ h. pos 0) (λ h. refl)
 
-balanced_posted : {old new : Sheet} {x : Posting} → Accepted x → Posted old x new → Balanced old → Balanced new
+balanced_posted : {old new : Sheet} {x : Posting} → Bounds x → Posted old x new → Balanced old → Balanced new
 balanced_posted {old} {new} {x} ok p b = record {
   lots = λ q. omega (
     arith,
@@ -54,7 +54,7 @@ balanced_posted {old} {new} {x} ok p b = record {
 
 balanced_run : {old new : Sheet} {xs : List Posting} {n : ℕ} → Run old xs n new → Balanced old → Balanced new
 balanced_run run_none b = b
-balanced_run {old} (run_accepted {x = x} a rest) b = balanced_run rest (balanced_posted (accepted x (allowed old.places x a.allowed)) a.posted b)
+balanced_run {old} (run_accepted {x = x} a rest) b = balanced_run rest (balanced_posted (bounds x (allowed old.places x a.allowed)) a.posted b)
 balanced_run (run_refused r rest) b = balanced_run rest (subst Balanced (sym r.same) b)
 
 pub always_balanced : AlwaysBalanced
@@ -76,9 +76,6 @@ pub run_take : {s s' s'' : Sheet} {n : ℕ} (xs : List Posting) (i : ℕ) (d : P
 run_take {s} {s'' = s''} {n} xs i d answer h run p =
     subst (λ (l : List Posting). Run s l (cond (is_ok answer) (suc n) n) s'') (sym (take_more xs i d h)) (run_push (get_or xs i d) answer run p)
 
-moved_back : (to from n h : ℕ) → moved from to n h +ℤ moved to from n h ≡ pos 0
-moved_back to from n h = omega (arith, ints)
-
 when_back : (b : Bool) (x y : ℤ) → x +ℤ y ≡ pos 0 → when b x +ℤ when b y ≡ pos 0
 when_back true x y e = e
 when_back false x y e = refl
@@ -90,12 +87,12 @@ taken_back before between after x p q = record {
     ints,
     p.lots h c,
     q.lots h c,
-    when_back (eqb c x.paper) (moved x.seller x.buyer x.lots h) (moved x.buyer x.seller x.lots h) (moved_back x.buyer x.seller x.lots h),
+    when_back (eqb c x.paper) (moved x.seller x.buyer x.lots h) (moved x.buyer x.seller x.lots h) (omega (arith, ints)),
   );
-  cash = λ h. omega (arith, ints, p.cash h, q.cash h, moved_back x.seller x.buyer x.pesos h);
+  cash = λ h. omega (arith, ints, p.cash h, q.cash h);
 }
 
 -- what an accepted posting did
 pub posted : (old new : Sheet) (x : Posting) (answer : Result (Unit {0}) Refusal) → Posts old x answer new → answer ≡ Ok tt → Posted old x new
 posted old new x (Ok done) p e = p.posted
-posted old new x (Err why) p e = let z : ◌≡◌ {A = ℕ} 0 1 = cc in absurd (omega arith)
+posted old new x (Err why) p e = absurd (cc)

@@ -1,5 +1,5 @@
 -- What a book means, and what a posting does to it.
-use Rattle.std.specs.Prelude.{◌≡◌, ℕ, ◌+◌, ◌≤◌, Bool, cond, not, ◌&&◌, ◌⊎◌, ℤ, pos, ◌+ℤ◌, ◌-ℤ◌, Some, None, Ok, Err, Option, Result, ◌==◌, nat_le, nat_lt}
+use Rattle.std.specs.Prelude.{◌≡◌, ℕ, ◌+◌, ◌≤◌, Bool, cond, not, ◌&&◌, ◌⊎◌, List, ℤ, pos, ◌+ℤ◌, ◌-ℤ◌, codes, Some, None, Ok, Err, Option, Result, ◌==◌, nat_le, nat_lt}
 use Rattle.book.specs.declared.posting.Posting.{Posting}
 use Rattle.book.specs.declared.posting.Refusal.{Refusal}
 use Rattle.book.specs.declared.posting.Refusal.TheVariants.{BadPosting, NoPlace}
@@ -71,6 +71,11 @@ first_refusal places x = cond (not (acceptable x)) (Some BadPosting) (cond (plac
 abbrev pub refusal_number : Refusal → ℕ
 refusal_number BadPosting = 27
 refusal_number NoPlace = 28
+
+-- what a reader is told of a refusal
+abbrev pub refusal_text : Refusal → List ℕ
+refusal_text BadPosting = codes "the posting is out of range"
+refusal_text NoPlace = codes "the book has no place left"
 
 -- a posting that no rule refuses is added
 pub record Accepts (old : Sheet) (x : Posting) (new : Sheet) : Type 0 where

@@ -9,7 +9,7 @@ mod rules;
 mod runs;
 
 pub use posting::{Posting, Refusal};
-pub use rules::{HOUSES, MOST_LOTS, MOST_PESOS, PAPERS};
+pub use rules::{Accepted, HOUSES, MOST_LOTS, MOST_PESOS, PAPERS};
 pub use runs::{Tally, post_all, take_back};
 
 pub trait Book {

@@ -1,7 +1,7 @@
 // What is posted, and why a posting is refused. The types stand alone, since the definitions of specs/ name them.
 
 // Lots of a paper that a buyer has of a seller, and the pesos paid for them.
-#[derive(Clone, Copy, PartialEq, Eq, Debug)]
+#[derive(Clone, Copy, PartialEq, Eq, Debug, Default)]
 pub struct Posting {
     pub buyer: u8,
     pub seller: u8,
@@ -10,9 +10,9 @@ pub struct Posting {
     pub pesos: u64,
 }
 
-// Why a posting is refused.
+// Why a posting is refused, and the number that the refusal is known by.
 #[derive(Clone, Copy, PartialEq, Eq, Debug)]
 pub enum Refusal {
-    BadPosting,
-    NoPlace,
+    BadPosting = 27,
+    NoPlace = 28,
 }

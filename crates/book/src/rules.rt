@@ -1,7 +1,9 @@
-ghost use Rattle.std.specs.Prelude.{◌≡◌};
-ghost use Rattle.book.specs.Sheet.{acceptable, parties_fit, terms_fit, exchanged, first_refusal, refusal_number};
+ghost use Rattle.std.specs.Prelude.{◌≡◌, true, Some, IfOk};
+ghost use Rattle.std.specs.Result.{result_err};
+ghost use Rattle.book.specs.Sheet.{acceptable, parties_fit, terms_fit, exchanged, first_refusal, refusal_number, refusal_text};
 
 use super::posting::{Posting, Refusal};
+use std::fmt;
 
 pub const HOUSES: u8 = 16;
 
@@ -16,11 +18,26 @@ impl Refusal {
     pub fn number(self) -> u8
         ensures { result ≡ refusal_number self }
     {
+        self as u8
+    }
+}
+
+impl fmt::Display for Refusal {
+    ghost output = { λ why. Some (refusal_text why) };
+
+    fn fmt<W: fmt::Write>(&self, f: &mut fmt::Formatter<W>) -> fmt::Result {
         match self {
-            Refusal::BadPosting => 27,
-            Refusal::NoPlace => 28,
+            Refusal::BadPosting => f.write_str("the posting is out of range"),
+            Refusal::NoPlace => f.write_str("the book has no place left"),
         }
     }
+}
+
+// A posting that a book with a place takes.
+#[derive(Clone, Copy)]
+pub struct Accepted {
+    pub posting: Posting,
+    pub ghost fits: { acceptable posting ≡ true },
 }
 
 impl Posting {
@@ -31,9 +48,7 @@ impl Posting {
         Posting {
             buyer: self.seller,
             seller: self.buyer,
-            paper: self.paper,
-            lots: self.lots,
-            pesos: self.pesos,
+            ..self
         }
     }
 
@@ -49,29 +64,29 @@ impl Posting {
         ensures { result ≡ terms_fit self }
     {
         self.paper < PAPERS
-            && self.lots > 0
-            && self.lots <= MOST_LOTS
-            && self.pesos > 0
-            && self.pesos <= MOST_PESOS
+            && (1..=MOST_LOTS).contains(&self.lots)
+            && (1..=MOST_PESOS).contains(&self.pesos)
     }
 
     // Whether a book with a place takes the posting.
+    #[tactic(auto, unfolding(crate::specs::Sheet::acceptable))]
     fn is_acceptable(self) -> bool
         ensures { result ≡ acceptable self }
     {
         self.parties_fit() && self.terms_fit()
     }
 
-    // Why a book with so many places refuses the posting, if it does.
-    pub fn refusal(self, places: u32) -> Option<Refusal>
-        ensures { result ≡ first_refusal places self }
+    // The posting as one that a book with so many places takes, or the first reason why it does not.
+    pub fn accept(self, places: u32) -> Result<Accepted, Refusal>
+        ensures refused { result_err result ≡ first_refusal places self }
+        ensures holds { IfOk result (λ accepted. accepted.posting ≡ self) }
     {
         if !self.is_acceptable() {
-            Some(Refusal::BadPosting)
-        } else if places == 0 {
-            Some(Refusal::NoPlace)
-        } else {
-            None
+            return Err(Refusal::BadPosting);
         }
+        if places == 0 {
+            return Err(Refusal::NoPlace);
+        }
+        Ok(Accepted { posting: self })
     }
 }

@@ -42,20 +42,12 @@ pub fn post_all<B: Book>(book: &mut B, postings: &[Posting]) -> Tally
     }
 }
 
-// Posts `back`: where the book was brought here by the exchange of `back`, every balance is as before that.
-fn undo<B: Book>(book: &mut B, back: Posting) -> Result<(), Refusal>
-    ensures posts { Posts (B.Book.sheet book.old) back result (B.Book.sheet book.new) }
-    ensures restored { result ≡ Ok tt → (before : Sheet) → Posted before (exchanged back) (B.Book.sheet book.old) → SameBalances before (B.Book.sheet book.new) }
-    ensures always { TakenBack }
-{
-    book.post(back)
-}
-
 // Takes a posting back: posts it with buyer and seller exchanged. Where it was the last to be posted, every balance is as before it.
+#[tactic(auto, using(crate::proofs::Laws::taken_back, crate::proofs::Laws::posted))]
 pub fn take_back<B: Book>(book: &mut B, posting: Posting) -> Result<(), Refusal>
     ensures posts { Posts (B.Book.sheet book.old) (exchanged posting) result (B.Book.sheet book.new) }
     ensures restored { result ≡ Ok tt → (before : Sheet) → Posted before posting (B.Book.sheet book.old) → SameBalances before (B.Book.sheet book.new) }
     ensures always { TakenBack }
 {
-    undo(book, posting.exchanged())
+    book.post(posting.exchanged())
 }

@@ -2,8 +2,7 @@
 #![tactic(auto)]
 
 ghost use Rattle.book.specs.Laws.{Balanced};
-ghost use Rattle.journal.specs.Meaning.{journal_sheet};
-ghost use Rattle.net_sheet.specs.Meaning.{net_sheet};
+ghost use Rattle.book.specs.Sheet.{Clear};
 
 use book::{Book, Posting, post_all};
 use journal::Journal;
@@ -25,30 +24,18 @@ mod tests {
         }
     }
 
-    // The first law at a journal, with nothing left to assume.
-    fn journal_of(postings: &[Posting]) -> Journal
-        ensures { Balanced (journal_sheet result) }
+    // The first law at any make, with nothing left to assume but that it begins with every balance zero.
+    fn posted<B: Book>(mut book: B, postings: &[Posting]) -> B
+        requires { Clear (B.Book.sheet book) }
+        ensures { Balanced (B.Book.sheet result) }
     {
-        let mut book = Journal::new();
         let _ = post_all(&mut book, postings);
         book
     }
 
-    // The first law at a net sheet, with nothing left to assume.
-    fn net_sheet_of(postings: &[Posting]) -> NetSheet
-        ensures { Balanced (net_sheet result) }
-    {
-        let mut book = NetSheet::new();
-        let _ = post_all(&mut book, postings);
-        book
-    }
-
-    // 0 where the posting is accepted, else the refusal's number.
-    fn answer<B: Book>(book: &mut B, posting: Posting) -> u8 {
-        match book.post(posting) {
-            Ok(()) => 0,
-            Err(why) => why.number(),
-        }
+    // The answer to a posting, with a refusal by its number.
+    fn answer<B: Book>(book: &mut B, posting: Posting) -> Result<(), u8> {
+        book.post(posting).map_err(|why| why.number())
     }
 
     // Every balance is zero, also those of what is no house or paper.
@@ -94,27 +81,30 @@ mod tests {
     #[test]
     fn a_make_holds_what_is_posted(rt: HostRuntime) {
         let postings = [of(8, 3, 6, 12, 70), of(3, 8, 6, 20, 90)];
-        let journal = journal_of(&postings);
+        let journal = posted(Journal::new(), &postings);
         assert_eq!(rt; journal.balance(8, 6), -8);
         assert_eq!(rt; journal.cash(8), 20);
-        let net = net_sheet_of(&postings);
+        let net = posted(NetSheet::new(), &postings);
         assert_eq!(rt; net.balance(3, 6), 8);
         assert_eq!(rt; net.cash(3), -20);
     }
 
     // Each bound, from both sides.
     fn check_edges<B: Book>(rt: &impl Abort, book: &mut B) {
-        assert_eq!(rt; answer(book, of(16, 0, 0, 1, 1)), 27);
-        assert_eq!(rt; answer(book, of(0, 16, 0, 1, 1)), 27);
-        assert_eq!(rt; answer(book, of(0, 1, 8, 1, 1)), 27);
-        assert_eq!(rt; answer(book, of(0, 1, 0, 0, 1)), 27);
-        assert_eq!(rt; answer(book, of(0, 1, 0, 1_000_001, 1)), 27);
-        assert_eq!(rt; answer(book, of(5, 5, 0, 1, 1)), 27);
-        assert_eq!(rt; answer(book, of(0, 1, 0, 1, 0)), 27);
-        assert_eq!(rt; answer(book, of(0, 1, 0, 1, 200_000_000_001)), 27);
+        assert_eq!(rt; answer(book, of(16, 0, 0, 1, 1)), Err(27));
+        assert_eq!(rt; answer(book, of(0, 16, 0, 1, 1)), Err(27));
+        assert_eq!(rt; answer(book, of(0, 1, 8, 1, 1)), Err(27));
+        assert_eq!(rt; answer(book, of(0, 1, 0, 0, 1)), Err(27));
+        assert_eq!(rt; answer(book, of(0, 1, 0, 1_000_001, 1)), Err(27));
+        assert_eq!(rt; answer(book, of(5, 5, 0, 1, 1)), Err(27));
+        assert_eq!(rt; answer(book, of(0, 1, 0, 1, 0)), Err(27));
+        assert_eq!(rt; answer(book, of(0, 1, 0, 1, 200_000_000_001)), Err(27));
         check_clear(rt, book);
-        assert_eq!(rt; answer(book, of(15, 0, 7, 1, 1)), 0);
-        assert_eq!(rt; answer(book, of(0, 15, 0, 1_000_000, 200_000_000_000)), 0);
+        assert_eq!(rt; answer(book, of(15, 0, 7, 1, 1)), Ok(()));
+        assert_eq!(rt;
+            answer(book, of(0, 15, 0, 1_000_000, 200_000_000_000)),
+            Ok(())
+        );
         assert_eq!(rt; book.balance(15, 7), 1);
         assert_eq!(rt; book.balance(0, 7), -1);
         assert_eq!(rt; book.balance(0, 0), 1_000_000);
@@ -140,12 +130,12 @@ mod tests {
         for _ in 0..256 {
             assert_eq!(rt;
                 answer(&mut journal, of(3, 9, 5, 1_000_000, 200_000_000_000)),
-                0
+                Ok(())
             );
         }
         assert_eq!(rt; journal.places(), 0);
-        assert_eq!(rt; answer(&mut journal, of(3, 9, 5, 1, 1)), 28);
-        assert_eq!(rt; answer(&mut journal, of(3, 3, 5, 1, 1)), 27);
+        assert_eq!(rt; answer(&mut journal, of(3, 9, 5, 1, 1)), Err(28));
+        assert_eq!(rt; answer(&mut journal, of(3, 3, 5, 1, 1)), Err(27));
         assert_eq!(rt; journal.places(), 0);
         assert_eq!(rt; journal.balance(3, 5), 256_000_000);
         assert_eq!(rt; journal.balance(9, 5), -256_000_000);
@@ -155,7 +145,7 @@ mod tests {
 
     fn check_take_back<B: Book>(rt: &impl Abort, book: &mut B) {
         let posting = of(6, 11, 2, 40, 123_456);
-        assert_eq!(rt; answer(book, posting), 0);
+        assert_eq!(rt; answer(book, posting), Ok(()));
         assert_eq!(rt; book.balance(6, 2), 40);
         assert_eq!(rt; book.cash(11), 123_456);
         assert_eq!(rt; take_back(book, posting), Ok(()));

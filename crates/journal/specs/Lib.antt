@@ -1,3 +1,2 @@
-pub mod Kept
 pub mod Meaning
-pub mod Stored
+pub mod Laws

@@ -1,5 +1,5 @@
 -- What a journal means.
-use Rattle.std.specs.Prelude.{◌-◌, List, take, ℤ, pos, ◌+ℤ◌, fold}
+use Rattle.std.specs.Prelude.{◌-◌, List, length, ℤ, pos, ◌+ℤ◌, fold}
 use Rattle.book.specs.Sheet.{Sheet, lots_added, cash_added}
 use Rattle.book.specs.declared.posting.Posting.{Posting}
 use Rattle.journal.specs.declared.Journal.{Journal}
@@ -17,12 +17,12 @@ added_up f postings = fold (λ sum x. sum +ℤ f x) (pos 0) postings
 
 -- the postings that a journal holds, in order
 abbrev pub stored : Journal → List Posting
-stored j = take j.count j.postings
+stored j = j.postings.items
 
 -- a journal has what its postings add up to, and 256 places in all
 abbrev pub journal_sheet : Journal → Sheet
 journal_sheet j = record {
   lots = λ house paper. added_up (λ x. lots_added x house paper) (stored j);
   cash = λ house. added_up (λ x. cash_added x house) (stored j);
-  places = 256 - j.count;
+  places = 256 - length (stored j);
 }

@@ -1,18 +1,19 @@
-ghost use Rattle.std.specs.Prelude.{◌≡◌, ◌+◌, ◌<◌, ◌≤◌, true, length};
+ghost use Rattle.std.specs.Prelude.{◌≡◌, ◌+◌, ◌<◌, ◌≤◌, true, length, pos, neg_ℤ, ◌≤ℤ◌};
+ghost use Rattle.std.specs.List.{AllPass};
 ghost use Rattle.book.specs.Sheet.{Clear, Posted, Posts, TakesPlace, acceptable, moved};
-ghost use Rattle.journal.specs.Kept.{Sound};
-ghost use Rattle.journal.specs.Meaning.{account_added, added_up, journal_sheet};
-ghost use Rattle.journal.specs.Stored.{lots_outside, cash_outside, places_fit};
+ghost use Rattle.journal.specs.Meaning.{account_added, added_up, stored, journal_sheet};
+ghost use Rattle.journal.specs.Laws.{zero_outside, places_fit};
 
-use super::{Account, Journal};
-use book::{Book, Posting, Refusal};
-
-const PLACES: u32 = 256;
+use super::{Account, Journal, PLACES};
+use arrayvec::ArrayVec;
+use book::{Book, MOST_PESOS, Posting, Refusal};
 
 // What an amount that goes from one house to another adds at a house.
 fn moved(to: u8, from: u8, amount: u64, house: u8) -> i64
-    requires { amount ≤ 200_000_000_000 }
-    ensures { result ≡ moved to from amount house }
+    requires { amount ≤ MOST_PESOS }
+    ensures value { result ≡ moved to from amount house }
+    ensures least { neg_ℤ (pos amount) ≤ℤ result }
+    ensures most { result ≤ℤ pos amount }
 {
     let came = if house == to { amount as i64 } else { 0 };
     let gone = if house == from { amount as i64 } else { 0 };
@@ -20,9 +21,12 @@ fn moved(to: u8, from: u8, amount: u64, house: u8) -> i64
 }
 
 // What a posting adds to an account.
+#[tactic(auto, unfolding(book::specs::Sheet::acceptable))]
 fn added(account: Account, posting: Posting) -> i64
     requires { acceptable posting ≡ true }
-    ensures { result ≡ account_added account posting }
+    ensures value { result ≡ account_added account posting }
+    ensures least { neg_ℤ (pos MOST_PESOS) ≤ℤ result }
+    ensures most { result ≤ℤ pos MOST_PESOS }
 {
     match account {
         Account::Lots(house, paper) => {
@@ -35,10 +39,10 @@ fn added(account: Account, posting: Posting) -> i64
     }
 }
 
-// What postings add up to in an account.
+// What postings add up to in an account. A `for`, since its invariant bounds the sum of signed terms at each step, as no chain's contract does.
 fn add_up(postings: &[Posting], account: Account) -> i64
-    requires few { length postings.now ≤ 256 }
-    requires sound { Sound (length postings.now) postings.now }
+    requires few { length postings.now ≤ PLACES }
+    requires sound { AllPass acceptable postings.now }
     ensures { result ≡ added_up (account_added account) postings.now }
 {
     let mut sum: i64 = 0;
@@ -54,66 +58,37 @@ impl Journal {
         ensures clear { Clear (journal_sheet result) }
         ensures places { (journal_sheet result).places ≡ 256 }
     {
-        let blank = Posting {
-            buyer: 0,
-            seller: 0,
-            paper: 0,
-            lots: 0,
-            pesos: 0,
-        };
         Journal {
-            postings: [blank; 256],
-            count: 0,
+            postings: ArrayVec::new(),
         }
-    }
-
-    // Stores a posting that no rule refuses.
-    fn enter(&mut self, posting: Posting)
-        requires allowed { acceptable posting ≡ true }
-        requires room { 0 < (journal_sheet self.old).places }
-        ensures posted { Posted (journal_sheet self.old) posting (journal_sheet self.new) }
-        ensures place { (journal_sheet self.new).places + 1 ≡ (journal_sheet self.old).places }
-    {
-        self.postings[self.count as usize] = posting;
-        self.count += 1;
     }
 }
 
 impl Book for Journal {
     ghost sheet = { journal_sheet };
 
-    ghost outside = { λ b. record {
-      lots = lots_outside b.postings b.count b.wide b.few b.sound;
-      cash = cash_outside b.postings b.count b.wide b.few b.sound;
-    } };
+    ghost outside = { zero_outside };
 
-    ghost counted = { λ b. places_fit b.count };
+    ghost counted = { places_fit };
 
     fn post(&mut self, posting: Posting) -> Result<(), Refusal>
         ensures posts { Posts (journal_sheet self.old) posting result (journal_sheet self.new) }
         ensures place { TakesPlace (journal_sheet self.old).places result (journal_sheet self.new).places }
     {
-        match posting.refusal(self.places()) {
-            Some(why) => Err(why),
-            None => {
-                self.enter(posting);
-                Ok(())
-            }
-        }
+        let accepted = posting.accept(self.places())?;
+        self.postings.push(accepted.posting);
+        Ok(())
     }
 
     fn balance(&self, house: u8, paper: u8) -> i64 {
-        add_up(
-            &self.postings[0..self.count as usize],
-            Account::Lots(house, paper),
-        )
+        add_up(&self.postings, Account::Lots(house, paper))
     }
 
     fn cash(&self, house: u8) -> i64 {
-        add_up(&self.postings[0..self.count as usize], Account::Cash(house))
+        add_up(&self.postings, Account::Cash(house))
     }
 
     fn places(&self) -> u32 {
-        PLACES - self.count
+        self.postings.remaining_capacity() as u32
     }
 }

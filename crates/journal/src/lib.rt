@@ -1,21 +1,24 @@
 //! A book that keeps every posting, and adds them up when asked.
 #![tactic(auto)]
 
-ghost use Rattle.std.specs.Prelude.{◌≡◌, ◌≤◌, length};
-ghost use Rattle.journal.specs.Kept.{Sound};
+ghost use Rattle.std.specs.List.{AllPass};
+ghost use Rattle.book.specs.Sheet.{acceptable};
 
+use arrayvec::ArrayVec;
 use book::Posting;
 
 mod calls;
 
+// How many postings a journal takes.
+const PLACES: usize = 256;
+
 // Every posting, in order: a balance is what they add up to.
+// The elements are not `Accepted`: an array vector fills its blanks with a default, and no accepted posting is a natural one.
+// There is no `impl Model`: the value would be functions of houses and papers, and the laws of `Book` need the invariant, which no view gives.
 #[derive(Drop)]
 pub struct Journal {
-    postings: [Posting; 256],
-    count: u32,
-    ghost wide: { length postings ≡ 256 },
-    ghost few: { count ≤ 256 },
-    ghost sound: { Sound count postings },
+    postings: ArrayVec<Posting, PLACES>,
+    ghost sound: { AllPass acceptable postings.items },
 }
 
 // One balance of the book: a house's lots of a paper, or its cash.

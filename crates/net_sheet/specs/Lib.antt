@@ -1,3 +1,3 @@
 pub mod Kept
 pub mod Meaning
-pub mod Figures
+pub mod Laws

@@ -1,25 +1,23 @@
-ghost use Rattle.std.specs.Prelude.{◌≡◌, ℕ, ◌+◌, ◌*◌, ◌^◌, ◌<◌, ◌≤◌, true, length, pos, ◌+ℤ◌, slice_index_or};
-ghost use Rattle.book.specs.Sheet.{Clear, Posted, Posts, TakesPlace, acceptable, moved};
+ghost use Rattle.std.specs.Prelude.{◌≡◌, ℕ, ◌+◌, ◌*◌, ◌^◌, ◌<◌, ◌≤◌, length, pos, ◌+ℤ◌, slice_index_or};
+ghost use Rattle.book.specs.Sheet.{Clear, Posted, Posts, TakesPlace, moved};
 ghost use Rattle.net_sheet.specs.Kept.{Within};
 ghost use Rattle.net_sheet.specs.Meaning.{net_sheet};
-ghost use Rattle.net_sheet.specs.Figures.{row_past, cash_past, places_fit};
+ghost use Rattle.net_sheet.specs.Laws.{zero_outside, places_fit};
 
-use super::NetSheet;
-use book::{Book, HOUSES, PAPERS, Posting, Refusal};
+use super::{NetSheet, PLACES};
+use book::{Accepted, Book, HOUSES, MOST_PESOS, PAPERS, Posting, Refusal};
 
 // An amount goes from one figure to another.
 fn transfer(figures: &mut [i64], to: usize, from: usize, amount: u64)
     requires to { to < length figures.old }
     requires from { from < length figures.old }
-    requires small { amount ≤ 200_000_000_000 }
+    requires small { amount ≤ MOST_PESOS }
     requires fits { Within (2 ^ 60) figures.old }
     ensures { (k : ℕ) → slice_index_or figures.new k (pos 0) ≡ slice_index_or figures.old k (pos 0) +ℤ moved to from amount k }
 {
     let amount = amount as i64;
-    let less = figures[from] - amount;
-    figures[from] = less;
-    let more = figures[to] + amount;
-    figures[to] = more;
+    figures[from] -= amount;
+    figures[to] += amount;
 }
 
 // Where the figure of a house and a paper stands.
@@ -43,12 +41,12 @@ impl NetSheet {
         ensures clear { Clear (net_sheet result) }
         ensures places { (net_sheet result).places ≡ 1_000_000 }
     {
-        NetSheet::with_places(1_000_000)
+        NetSheet::with_places(PLACES)
     }
 
     // Every balance zero, and so many places.
     fn with_places(places: u32) -> NetSheet
-        requires { places ≤ 1_000_000 }
+        requires { places ≤ PLACES }
         ensures clear { Clear (net_sheet result) }
         ensures places { (net_sheet result).places ≡ places }
     {
@@ -60,12 +58,13 @@ impl NetSheet {
     }
 
     // Adds a posting that no rule refuses.
-    fn enter(&mut self, posting: Posting)
-        requires allowed { acceptable posting ≡ true }
+    #[tactic(auto, unfolding(book::specs::Sheet::acceptable))]
+    fn enter(&mut self, accepted: Accepted)
         requires room { 0 < (net_sheet self.old).places }
-        ensures posted { Posted (net_sheet self.old) posting (net_sheet self.new) }
+        ensures posted { Posted (net_sheet self.old) accepted.posting (net_sheet self.new) }
         ensures place { (net_sheet self.new).places + 1 ≡ (net_sheet self.old).places }
     {
+        let posting = accepted.posting;
         let bought = figure_of(posting.buyer, posting.paper);
         let sold = figure_of(posting.seller, posting.paper);
         transfer(&mut self.lots, bought, sold, posting.lots as u64);
@@ -82,21 +81,17 @@ impl NetSheet {
 impl Book for NetSheet {
     ghost sheet = { net_sheet };
 
-    ghost outside = { λ b. record { lots = λ h p. row_past b.lots h p b.wide; cash = λ h. cash_past b.cash h b.long } };
+    ghost outside = { zero_outside };
 
-    ghost counted = { λ b. places_fit b.places b.few };
+    ghost counted = { places_fit };
 
     fn post(&mut self, posting: Posting) -> Result<(), Refusal>
         ensures posts { Posts (net_sheet self.old) posting result (net_sheet self.new) }
         ensures place { TakesPlace (net_sheet self.old).places result (net_sheet self.new).places }
     {
-        match posting.refusal(self.places) {
-            Some(why) => Err(why),
-            None => {
-                self.enter(posting);
-                Ok(())
-            }
-        }
+        let accepted = posting.accept(self.places)?;
+        self.enter(accepted);
+        Ok(())
     }
 
     fn balance(&self, house: u8, paper: u8) -> i64 {

@@ -3,10 +3,17 @@
 
 ghost use Rattle.std.specs.Prelude.{◌≡◌, ◌-◌, ◌*◌, ◌≤◌, length};
 ghost use Rattle.net_sheet.specs.Kept.{Within};
+ghost use Rattle.net_sheet.specs.declared.TheConstants.{PLACES};
+ghost use Rattle.book.specs.declared.rules.TheConstants.{MOST_LOTS, MOST_PESOS};
 
 mod calls;
 
-// One figure for each balance. It takes a million postings, and what each may move keeps the figures small.
+// How many postings a net sheet takes.
+const PLACES: u32 = 1_000_000;
+
+// One figure for each balance. What each of the postings that it takes may move keeps the figures small.
+// Two plain arrays, and not one of a struct for each house: so one `transfer` serves lots and cash.
+// There is no `impl Model`: the value would be functions of houses and papers, and the laws of `Book` need the invariant, which no view gives.
 #[derive(Drop)]
 pub struct NetSheet {
     lots: [i64; 128],
@@ -14,7 +21,7 @@ pub struct NetSheet {
     places: u32,
     ghost wide: { length lots ≡ 128 },
     ghost long: { length cash ≡ 16 },
-    ghost few: { places ≤ 1_000_000 },
-    ghost lots_fit: { Within ((1_000_000 - places) * 1_000_000) lots },
-    ghost cash_fit: { Within ((1_000_000 - places) * 200_000_000_000) cash },
+    ghost few: { places ≤ PLACES },
+    ghost lots_fit: { Within ((PLACES - places) * MOST_LOTS) lots },
+    ghost cash_fit: { Within ((PLACES - places) * MOST_PESOS) cash },
 }

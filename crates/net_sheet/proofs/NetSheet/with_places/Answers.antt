@@ -1,5 +1,5 @@
 use Rattle.std.proofs.Common.{refl}
-use Rattle.net_sheet.specs.Figures.{within_none, none_there, none_held}
+use Rattle.net_sheet.proofs.Figures.{within_none, none_there, none_held}
 use Rattle.net_sheet.proofs.NetSheet.with_places.Goals as goal
 
 pub invariant_of-result : goal.invariant_of-result

@@ -1,6 +1,6 @@
 use Rattle.std.proofs.Common.{arith, rules}
 use Rattle.std.proofs.lemmas.Int.{ints}
-use Rattle.net_sheet.specs.Figures.{put_both}
+use Rattle.net_sheet.proofs.Figures.{put_both}
 use Rattle.net_sheet.proofs.calls.transfer.Goals as goal
 
 pub returns : goal.returns

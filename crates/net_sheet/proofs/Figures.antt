@@ -1,0 +1,57 @@
+-- What a posting does to the figures of a net sheet.
+use Rattle.std.specs.Prelude.{◌≡◌, ℕ, zero, suc, ◌+◌, ◌-◌, ◌*◌, ◌^◌, ◌<◌, ◌≤◌, cond, List, length, replicate, ℤ, pos, ◌+ℤ◌, ◌-ℤ◌, ◌==◌, nat_lt, slice_index_or, slice_set, refl}
+use Rattle.std.proofs.Common.{arith, suc-mul, mul-le-mul_right, sub-le, length-set, get_or-set_same, get_or-set_other}
+use Rattle.std.proofs.lemmas.Int.{ints}
+use Rattle.std.proofs.lemmas.Bool.{cases_eq}
+use Rattle.std.proofs.lemmas.Bool.Decides.{nat_tests}
+use Rattle.book.specs.Sheet.{when, moved}
+use Rattle.book.proofs.Bounds.{moved_within}
+use Rattle.net_sheet.specs.Kept.{Within}
+
+put : (xs : List ℤ) (i k : ℕ) (v : ℤ) → i < length xs → slice_index_or (slice_set xs i v) k (pos 0) ≡ cond (k == i) v (slice_index_or xs k (pos 0))
+put xs i k v h = grind (arith, nat_tests, cases_eq k i, get_or-set_same xs i v (pos 0) h, get_or-set_other xs i k v (pos 0))
+
+-- taken from one figure, then added to another
+pub put_both : (xs : List ℤ) (to from n : ℕ) (u v : ℤ) → to < length xs → from < length xs → u ≡ slice_index_or xs from (pos 0) -ℤ pos n → v ≡ slice_index_or (slice_set xs from u) to (pos 0) +ℤ pos n
+    → (k : ℕ) → slice_index_or (slice_set (slice_set xs from u) to v) k (pos 0) ≡ slice_index_or xs k (pos 0) +ℤ moved to from n k
+put_both xs to from n u v ht hf eu ev k =
+    let taken = put xs from k u hf in
+    let there = put xs from to u hf in
+    let long : to < length (slice_set xs from u) = simp length-set ht in
+    let added = put (slice_set xs from u) to k v long in
+    grind (arith, ints, nat_tests, taken, there, added)
+
+pub none_there : (n k : ℕ) → slice_index_or (replicate n (pos 0)) k (pos 0) ≡ pos 0
+none_there zero k = refl
+none_there (suc n) zero = refl
+none_there (suc n) (suc k) = none_there n k
+
+pub within_none : (w n : ℕ) → Within w (replicate n (pos 0))
+within_none w n k = let z = none_there n k in (omega (arith, ints, z), omega (arith, ints, z))
+
+-- a posting takes a figure as much further from zero as the most that it may move
+pub within_moved : (most : ℕ) (xs ys : List ℤ) (to from n places left : ℕ) → n ≤ most → left + 1 ≡ places → places ≤ 1000000 → Within ((1000000 - places) * most) xs
+    → ((k : ℕ) → slice_index_or ys k (pos 0) ≡ slice_index_or xs k (pos 0) +ℤ moved to from n k) → Within ((1000000 - left) * most) ys
+within_moved most xs ys to from n places left small one few w e k =
+    let v = moved_within to from n k in
+    let more : (1000000 - left) * most ≡ (1000000 - places) * most + most =
+    let next : 1000000 - left ≡ suc (1000000 - places) = omega arith in rw (next, suc-mul) in
+    (omega (arith, ints, e k, v.0, (w k).0, more), omega (arith, ints, e k, v.1, (w k).1, more))
+
+pub within_less : (most : ℕ) (xs : List ℤ) (places : ℕ) → 1000000 * most ≤ 2 ^ 60 → Within ((1000000 - places) * most) xs → Within (2 ^ 60) xs
+within_less most xs places small w k =
+    let few : (1000000 - places) * most ≤ 1000000 * most = mul-le-mul_right most (sub-le 1000000 places) in
+    (omega (arith, ints, (w k).0), omega (arith, ints, (w k).1))
+
+-- the figures of lots: eight papers to a house
+pub row_moved : (b s p n h q : ℕ) → p < 8 → q < 8 → moved (b * 8 + p) (s * 8 + p) n (h * 8 + q) ≡ when (q == p) (moved b s n h)
+row_moved b s p n h q hp hq = grind (arith, ints, nat_tests)
+
+pub row_held : (xs ys : List ℤ) (b s p n : ℕ) {bought sold : ℕ} → p < 8 → bought ≡ b * 8 + p → sold ≡ s * 8 + p
+    → ((k : ℕ) → slice_index_or ys k (pos 0) ≡ slice_index_or xs k (pos 0) +ℤ moved bought sold n k)
+    → (h q : ℕ) → when (nat_lt q 8) (slice_index_or ys (h * 8 + q) (pos 0)) ≡ when (nat_lt q 8) (slice_index_or xs (h * 8 + q) (pos 0)) +ℤ when (q == p) (moved b s n h)
+row_held xs ys b s p n {bought} {sold} hp at_b at_s e h q =
+    grind (arith, ints, nat_tests, e (h * 8 + q), row_moved b s p n h q hp)
+
+pub none_held : (n h p : ℕ) → when (nat_lt p 8) (slice_index_or (replicate n (pos 0)) (h * 8 + p) (pos 0)) ≡ pos 0
+none_held n h p = grind (arith, nat_tests, none_there n (h * 8 + p))
