@@ -1,158 +1,121 @@
 //! A line, read.
 ghost use Rattle.std.specs.Prelude.{◌≡◌};
-ghost use Rattle.std.specs.Str.{bytes_eq};
-ghost use Rattle.blotter.specs.Reading.{figure, house, switch, ends, kind, figures, limit, block, trade, read};
+ghost use Rattle.words.specs.Words.{after};
+ghost use Rattle.trades.specs.Trades.{kind};
+ghost use Rattle.blotter.specs.Reading.{figure, house, switch, ends, ended, figures, limit, block, entry, trade, read};
 
 use super::entry::{Entry, Field, Flaw};
-use trades::{Figures, Kind};
+use trades::{Figures, Kind, Trade};
 use words::{Words, number};
 
-fn same(word: &[u8], name: &[u8]) -> bool
-    ensures { result ≡ bytes_eq word.now name.now }
+fn figure(words: &mut Words, field: Field) -> Result<u64, Flaw>
+    ensures figure { result ≡ figure field words.old.rest.now }
+    ensures rest { words.new.rest.now ≡ after words.old.rest.now }
 {
-    word == name
+    let word = words.next().ok_or(Flaw::Missing(field))?;
+    number(word).ok_or(Flaw::NoNumber(field))
 }
 
-fn figure(word: &[u8], field: Field) -> Result<u64, Flaw>
-    ensures { result ≡ figure field word.now }
+fn house(words: &mut Words, field: Field) -> Result<u8, Flaw>
+    ensures house { result ≡ house field words.old.rest.now }
+    ensures rest { words.new.rest.now ≡ after words.old.rest.now }
 {
-    if word.is_empty() {
-        return Err(Flaw::Missing(field));
-    }
-    match number(word) {
-        Some(n) => Ok(n),
-        None => Err(Flaw::NoNumber(field)),
-    }
-}
-
-fn house(word: &[u8], field: Field) -> Result<u8, Flaw>
-    ensures { result ≡ house field word.now }
-{
-    let n = figure(word, field)?;
+    let n = figure(words, field)?;
     if n > 15 {
         return Err(Flaw::NoHouse(field));
     }
     Ok(n as u8)
 }
 
-fn switch(word: &[u8]) -> Result<bool, Flaw>
-    ensures { result ≡ switch word.now }
+fn switch(words: &mut Words) -> Result<bool, Flaw>
+    ensures switch { result ≡ switch words.old.rest.now }
+    ensures rest { words.new.rest.now ≡ after words.old.rest.now }
 {
-    if word.is_empty() {
-        return Err(Flaw::Missing(Field::Switch));
+    match words.next() {
+        None => Err(Flaw::Missing(Field::Switch)),
+        Some(b"on") => Ok(true),
+        Some(b"off") => Ok(false),
+        Some(_) => Err(Flaw::NoSwitch),
     }
-    if same(word, b"on") {
-        return Ok(true);
-    }
-    if same(word, b"off") {
-        return Ok(false);
-    }
-    Err(Flaw::NoSwitch)
 }
 
-// Whether a line has come to its end, or to a comment.
-fn ends(word: &[u8]) -> bool
-    ensures { result ≡ ends word.now }
+// A line has come to its end, or to a comment.
+fn end(mut words: Words) -> Result<(), Flaw>
+    ensures { result ≡ ended words.entry.rest.now tt }
 {
-    word.is_empty() || word[0] == b'#'
-}
-
-fn kind(word: &[u8]) -> Option<Kind>
-    ensures { result ≡ kind word.now }
-{
-    if same(word, b"price") {
-        Some(Kind::Price)
-    } else if same(word, b"rate") {
-        Some(Kind::Rate)
-    } else if same(word, b"interbank") {
-        Some(Kind::Interbank)
-    } else {
-        None
+    match words.next() {
+        None | Some([b'#', ..]) => Ok(()),
+        Some(_) => Err(Flaw::Surplus),
     }
 }
 
 // The figures of a trade, after its market.
-fn figures(kind: Kind, text: &[u8]) -> Result<Figures, Flaw>
-    ensures { result ≡ figures kind text.now }
+fn figures(kind: Kind, mut words: Words) -> Result<Figures, Flaw>
+    ensures { result ≡ figures kind words.entry.rest.now }
 {
-    let mut words = Words::new(text);
     let figures = Figures {
         kind,
-        buyer: figure(words.next(), Field::Buyer)?,
-        seller: figure(words.next(), Field::Seller)?,
-        paper: figure(words.next(), Field::Paper)?,
-        lots: figure(words.next(), Field::Lots)?,
-        quote: figure(words.next(), Field::Quote)?,
-        days: figure(words.next(), Field::Days)?,
+        buyer: figure(&mut words, Field::Buyer)?,
+        seller: figure(&mut words, Field::Seller)?,
+        paper: figure(&mut words, Field::Paper)?,
+        lots: figure(&mut words, Field::Lots)?,
+        quote: figure(&mut words, Field::Quote)?,
+        days: figure(&mut words, Field::Days)?,
     };
-    if !ends(words.next()) {
-        return Err(Flaw::Surplus);
-    }
+    end(words)?;
     Ok(figures)
 }
 
-fn limit(text: &[u8]) -> Result<Entry, Flaw>
-    ensures { result ≡ limit text.now }
+fn limit(mut words: Words) -> Result<Entry, Flaw>
+    ensures { result ≡ limit words.entry.rest.now }
 {
-    let mut words = Words::new(text);
-    let granter = house(words.next(), Field::Granter)?;
-    let counterparty = house(words.next(), Field::Counterparty)?;
-    let pesos = figure(words.next(), Field::Pesos)?;
-    if !ends(words.next()) {
-        return Err(Flaw::Surplus);
-    }
-    Ok(Entry::Limit {
-        granter,
-        counterparty,
-        pesos,
-    })
-}
-
-fn block(text: &[u8]) -> Result<Entry, Flaw>
-    ensures { result ≡ block text.now }
-{
-    let mut words = Words::new(text);
-    let house_word = words.next();
-    let h = house(house_word, Field::House)?;
-    let other = house(words.next(), Field::Other)?;
-    let on = switch(words.next())?;
-    if !ends(words.next()) {
-        return Err(Flaw::Surplus);
-    }
-    Ok(Entry::Block {
-        house: h,
-        other,
-        on,
-    })
-}
-
-fn trade(word: &[u8], text: &[u8]) -> Result<Entry, Flaw>
-    ensures { result ≡ trade (kind word.now) text.now }
-{
-    let Some(kind) = kind(word) else {
-        return Err(Flaw::Unknown);
+    let entry = Entry::Limit {
+        granter: house(&mut words, Field::Granter)?,
+        counterparty: house(&mut words, Field::Counterparty)?,
+        pesos: figure(&mut words, Field::Pesos)?,
     };
-    let figures = figures(kind, text)?;
-    match figures.trade() {
-        Ok(trade) => Ok(Entry::Trade(trade)),
-        Err(flaw) => Err(Flaw::Trade(flaw)),
+    end(words)?;
+    Ok(entry)
+}
+
+fn block(mut words: Words) -> Result<Entry, Flaw>
+    ensures { result ≡ block words.entry.rest.now }
+{
+    let entry = Entry::Block {
+        house: house(&mut words, Field::House)?,
+        other: house(&mut words, Field::Other)?,
+        on: switch(&mut words)?,
+    };
+    end(words)?;
+    Ok(entry)
+}
+
+fn trade(market: &[u8], words: Words) -> Result<Entry, Flaw>
+    ensures { result ≡ trade (kind market.now) words.entry.rest.now }
+{
+    let kind = Kind::try_from(market)?;
+    let figures = figures(kind, words)?;
+    Ok(Entry::Trade(Trade::try_from(figures)?))
+}
+
+// What a line tells, by its first word.
+fn entry(word: &[u8], words: Words) -> Result<Entry, Flaw>
+    ensures { result ≡ entry word.now words.entry.rest.now }
+{
+    match word {
+        b"limit" => limit(words),
+        b"block" => block(words),
+        market => trade(market, words),
     }
 }
 
-// What a line tells, or the first thing wrong with it.
-pub fn read(line: &[u8]) -> Result<Entry, Flaw>
+// What a line tells, or the first thing wrong with it; a blank line and a comment tell nothing.
+pub fn read(line: &[u8]) -> Result<Option<Entry>, Flaw>
     ensures { result ≡ read line.now }
 {
     let mut words = Words::new(line);
-    let word = words.next();
-    let text = words.rest();
-    if ends(word) {
-        Ok(Entry::Nothing)
-    } else if same(word, b"limit") {
-        limit(text)
-    } else if same(word, b"block") {
-        block(text)
-    } else {
-        trade(word, text)
+    match words.next() {
+        None | Some([b'#', ..]) => Ok(None),
+        Some(word) => Ok(Some(entry(word, words)?)),
     }
 }

@@ -1,35 +1,10 @@
 //! The lines that are printed, byte for byte.
 ghost use Rattle.std.specs.Prelude.{Some};
-ghost use Rattle.blotter.specs.Printed.{terms, trade_line, cause, passed_line, lots_line, cash_line};
+ghost use Rattle.blotter.specs.Printed.{trade_line, passed_line, lots_line, cash_line};
 
 use lines::Fault;
 use std::fmt;
 use trades::Trade;
-
-// The terms of a trade, as a line has them.
-#[derive(Clone, Copy)]
-pub struct Terms(pub Trade);
-
-impl fmt::Display for Terms {
-    ghost output = { λ t. Some (terms t.0) };
-
-    fn fmt<W: fmt::Write>(&self, f: &mut fmt::Formatter<W>) -> fmt::Result {
-        let Trade {
-            kind,
-            buyer,
-            seller,
-            paper,
-            lots,
-            quote,
-            days,
-        } = self.0;
-        let market = kind.name();
-        write!(
-            f,
-            "{market} buyer {buyer} seller {seller} paper {paper} lots {lots} quote {quote} days {days}"
-        )
-    }
-}
 
 // A trade and its number in the input, from 1.
 #[derive(Clone, Copy)]
@@ -42,30 +17,9 @@ impl fmt::Display for Numbered {
     ghost output = { λ n. Some (trade_line n.number n.trade) };
 
     fn fmt<W: fmt::Write>(&self, f: &mut fmt::Formatter<W>) -> fmt::Result {
-        let number = self.number;
-        let terms = Terms(self.trade);
-        let value = self.trade.value();
-        write!(f, "trade {number}: {terms} value {value}")
-    }
-}
-
-// Why the lines do not allow a trade.
-#[derive(Clone, Copy)]
-pub struct Cause(pub Fault);
-
-impl fmt::Display for Cause {
-    ghost output = { λ c. Some (cause c.0) };
-
-    fn fmt<W: fmt::Write>(&self, f: &mut fmt::Formatter<W>) -> fmt::Result {
-        match self.0 {
-            Fault::OwnHouse => f.write_str("own house"),
-            Fault::Blocked { by } => write!(f, "blocked by {by}"),
-            Fault::Short {
-                granter,
-                counterparty,
-                pesos,
-            } => write!(f, "short {granter} {counterparty} {pesos}"),
-        }
+        let Numbered { number, trade } = *self;
+        let value = trade.value();
+        write!(f, "trade {number}: {trade} value {value}")
     }
 }
 
@@ -80,9 +34,8 @@ impl fmt::Display for Passed {
     ghost output = { λ p. Some (passed_line p.numbered.number p.numbered.trade p.fault) };
 
     fn fmt<W: fmt::Write>(&self, f: &mut fmt::Formatter<W>) -> fmt::Result {
-        let numbered = self.numbered;
-        let cause = Cause(self.fault);
-        write!(f, "{numbered} passed over: {cause}")
+        let Passed { numbered, fault } = *self;
+        write!(f, "{numbered} passed over: {fault}")
     }
 }
 

@@ -2,91 +2,88 @@
 use super::stop::Stop;
 use blotter::{CashOwed, Entry, LotsOwed, Numbered, Passed};
 use book::{Book, HOUSES, PAPERS};
-use ledger::{Ledger, Outcome};
+use ledger::{Ledger, NotPosted};
 use std::io::Write;
+use trades::Trade;
 use words::Lines;
 
-fn take_trade<B: Book>(
-    ledger: &mut Ledger<B>,
-    at: usize,
-    numbered: Numbered,
-    out: &mut impl Write,
-) -> Result<(), Stop> {
-    match ledger.take(numbered.trade) {
-        Ok(Outcome::Posted { .. }) => writeln!(out, "{numbered}")?,
-        Ok(Outcome::PassedOver(fault)) => {
-            let passed = Passed { numbered, fault };
-            writeln!(out, "{passed}")?;
-        }
-        Err(refusal) => return Err(Stop::NotPosted(at, refusal)),
-    }
-    Ok(())
-}
-
-// One line, with the number that its trade would have; says whether it had a trade.
-fn take_line<B: Book>(
-    ledger: &mut Ledger<B>,
-    at: usize,
-    line: &[u8],
+#[derive(Drop)]
+pub(crate) struct Day<'a, B: Book, W> {
+    ledger: Ledger<B>,
+    // The number of the next trade.
     number: u64,
-    out: &mut impl Write,
-) -> Result<bool, Stop> {
-    let entry = match blotter::read(line) {
-        Ok(entry) => entry,
-        Err(flaw) => return Err(Stop::Flawed(at, flaw)),
-    };
-    let set = match entry {
-        Entry::Nothing => Ok(()),
-        Entry::Trade(trade) => {
-            take_trade(ledger, at, Numbered { number, trade }, out)?;
-            return Ok(true);
-        }
-        Entry::Limit {
-            granter,
-            counterparty,
-            pesos,
-        } => ledger.set_limit(granter, counterparty, pesos),
-        Entry::Block { house, other, on } => ledger.set_block(house, other, on),
-    };
-    match set {
-        Ok(()) => Ok(false),
-        Err(refusal) => Err(Stop::NotSet(at, refusal)),
-    }
+    out: &'a mut W,
 }
 
-// Every line in turn, up to the first that ends the run.
-pub(crate) fn take_lines<B: Book>(
-    ledger: &mut Ledger<B>,
-    text: &[u8],
-    out: &mut impl Write,
-) -> Result<(), Stop> {
-    let mut lines = Lines::new(text);
-    let mut at: usize = 0;
-    let mut number: u64 = 1;
-    while let Some(line) = lines.next() {
-        at = at.saturating_add(1);
-        if take_line(ledger, at, line, number, out)? {
-            number = number.saturating_add(1);
+impl<'a, B: Book, W: Write> Day<'a, B, W> {
+    // A day that begins with nothing set and nothing posted.
+    pub(crate) fn new(book: B, out: &'a mut W) -> Day<'a, B, W> {
+        Day {
+            ledger: Ledger::new(book),
+            number: 1,
+            out,
         }
     }
-    Ok(())
-}
 
-// What each house has to receive or to deliver, balances of zero left out.
-pub(crate) fn print_owed<B: Book>(ledger: &Ledger<B>, out: &mut impl Write) -> Result<(), Stop> {
-    for house in 0..HOUSES {
-        for paper in 0..PAPERS {
-            let lots = ledger.balance(house, paper);
-            if lots != 0 {
-                let owed = LotsOwed { house, paper, lots };
-                writeln!(out, "{owed}")?;
+    // `at` is the number of the trade's line.
+    fn take_trade(&mut self, at: usize, trade: Trade) -> Result<(), Stop> {
+        let numbered = Numbered {
+            number: self.number,
+            trade,
+        };
+        match self.ledger.take(trade) {
+            Ok(_) => writeln!(self.out, "{numbered}")?,
+            Err(NotPosted::PassedOver(fault)) => {
+                let passed = Passed { numbered, fault };
+                writeln!(self.out, "{passed}")?;
+            }
+            Err(NotPosted::Refused(refusal)) => return Err(Stop::NotPosted(at, refusal)),
+        }
+        self.number = self.number.saturating_add(1);
+        Ok(())
+    }
+
+    fn take_line(&mut self, at: usize, line: &[u8]) -> Result<(), Stop> {
+        let entry = blotter::read(line).map_err(|flaw| Stop::Flawed(at, flaw))?;
+        let set = match entry {
+            None => Ok(()),
+            Some(Entry::Trade(trade)) => return self.take_trade(at, trade),
+            Some(
+                Entry::Limit {
+                    granter,
+                    counterparty,
+                    pesos,
+                },
+            ) => self.ledger.set_limit(granter, counterparty, pesos),
+            Some(Entry::Block { house, other, on }) => self.ledger.set_block(house, other, on),
+        };
+        set.map_err(|refusal| Stop::NotSet(at, refusal))
+    }
+
+    // Every line in turn, up to the first that ends the run.
+    pub(crate) fn take_lines(&mut self, text: &[u8]) -> Result<(), Stop> {
+        for (before, line) in Lines::new(text).enumerate() {
+            self.take_line(before.saturating_add(1), line)?;
+        }
+        Ok(())
+    }
+
+    // What each house has to receive or to deliver, balances of zero left out.
+    pub(crate) fn print_owed(&mut self) -> Result<(), Stop> {
+        for house in 0..HOUSES {
+            for paper in 0..PAPERS {
+                let lots = self.ledger.balance(house, paper);
+                if lots != 0 {
+                    let owed = LotsOwed { house, paper, lots };
+                    writeln!(self.out, "{owed}")?;
+                }
+            }
+            let pesos = self.ledger.cash(house);
+            if pesos != 0 {
+                let owed = CashOwed { house, pesos };
+                writeln!(self.out, "{owed}")?;
             }
         }
-        let pesos = ledger.cash(house);
-        if pesos != 0 {
-            let owed = CashOwed { house, pesos };
-            writeln!(out, "{owed}")?;
-        }
+        Ok(())
     }
-    Ok(())
 }

@@ -1,14 +1,13 @@
-ghost use Rattle.std.specs.Prelude.{◌≡◌, true, false};
-ghost use Rattle.lines.specs.Credit.{Clear};
+ghost use Rattle.std.specs.Prelude.{◌≡◌, None};
 ghost use Rattle.lines.specs.Rules.{LimitSet, BlockSet};
-ghost use Rattle.lines.specs.Of.{credit};
-ghost use Rattle.ledger.specs.Takes.{posting, barred, Takes};
+ghost use Rattle.ledger.specs.Takes.{posting, deal, NowRule, Takes};
 
-use super::outcome::Outcome;
-use book::{Book, Posting, Refusal};
-use lines::{Fault, Lines};
+use super::not_posted::NotPosted;
+use book::{Book, Posting};
+use lines::{Deal, Lines};
 use trades::Trade;
 
+// No `From`: it could stand in `trades`, `book` or `lines` alone, and none of them knows the others.
 fn posting(trade: Trade) -> Posting
     ensures { result ≡ posting trade }
 {
@@ -21,26 +20,31 @@ fn posting(trade: Trade) -> Posting
     }
 }
 
+fn deal(trade: Trade) -> Deal
+    ensures { result ≡ deal trade }
+{
+    Deal {
+        pledges: trade.kind.pledges(),
+        buyer: trade.buyer,
+        seller: trade.seller,
+        value: trade.value(),
+    }
+}
+
 #[derive(Drop)]
 pub struct Ledger<B: Book> {
-    lines: Lines,
-    // Whether a limit or a block was ever set: until then every trade is posted.
-    ruled: bool,
+    // None until a limit or a block is first set: until then every trade is posted.
+    lines: Option<Lines>,
     book: B,
 }
 
 impl<B: Book> Ledger<B> {
-    // Every line at nothing and none of them ruling, over a book.
+    // No lines that rule, over a book.
     pub fn new(book: B) -> Ledger<B>
-        ensures lines { Clear (credit result.lines) }
-        ensures ruled { result.ruled ≡ false }
+        ensures lines { result.lines ≡ None }
         ensures book { result.book ≡ book }
     {
-        Ledger {
-            lines: Lines::new(),
-            ruled: false,
-            book,
-        }
+        Ledger { lines: None, book }
     }
 
     // Sets a line's limit. From now on the lines rule.
@@ -50,59 +54,40 @@ impl<B: Book> Ledger<B> {
         counterparty: u8,
         pesos: u64,
     ) -> Result<(), lines::Refusal>
-        ensures lines { LimitSet (credit self.old.lines) granter counterparty pesos result (credit self.new.lines) }
-        ensures ruled { self.new.ruled ≡ true }
+        ensures lines { NowRule (λ old new. LimitSet old granter counterparty pesos result new) self.old.lines self.new.lines }
         ensures book { self.new.book ≡ self.old.book }
     {
-        self.ruled = true;
-        self.lines.set_limit(granter, counterparty, pesos)
+        self.lines
+            .get_or_insert_with(Lines::new)
+            .set_limit(granter, counterparty, pesos)
     }
 
     // Sets or lifts a house's block on another. From now on the lines rule.
     pub fn set_block(&mut self, house: u8, other: u8, on: bool) -> Result<(), lines::Refusal>
-        ensures lines { BlockSet (credit self.old.lines) house other on result (credit self.new.lines) }
-        ensures ruled { self.new.ruled ≡ true }
+        ensures lines { NowRule (λ old new. BlockSet old house other on result new) self.old.lines self.new.lines }
         ensures book { self.new.book ≡ self.old.book }
     {
-        self.ruled = true;
-        self.lines.set_block(house, other, on)
+        self.lines
+            .get_or_insert_with(Lines::new)
+            .set_block(house, other, on)
     }
 
-    // Why the lines do not allow a trade, if they rule and do not.
-    fn barred(&self, trade: Trade) -> Option<Fault>
-        ensures { result ≡ barred (credit self.now.lines) self.now.ruled trade }
+    // Posts a trade that the lines allow for its value, and uses them.
+    pub fn take(&mut self, trade: Trade) -> Result<u64, NotPosted>
+        ensures { Takes self.old.lines (B.Book.sheet self.old.book) trade result self.new.lines (B.Book.sheet self.new.book) }
     {
-        if !self.ruled {
-            return None;
-        }
-        self.lines.may_trade(
-            trade.kind.pledges(),
-            trade.buyer,
-            trade.seller,
-            trade.value(),
-        )
-    }
-
-    // Posts a trade that the lines allow, and uses them; passes over one that they do not.
-    pub fn take(&mut self, trade: Trade) -> Result<Outcome, Refusal>
-        ensures takes { Takes (credit self.old.lines) self.old.ruled (B.Book.sheet self.old.book) trade result (credit self.new.lines) (B.Book.sheet self.new.book) }
-        ensures ruled { self.new.ruled ≡ self.old.ruled }
-    {
-        if let Some(fault) = self.barred(trade) {
-            return Ok(Outcome::PassedOver(fault));
+        let deal = deal(trade);
+        if let Some(lines) = &self.lines {
+            lines.may_trade(deal)?;
         }
         self.book.post(posting(trade))?;
-        let value = trade.value();
-        if self.ruled {
-            match self
-                .lines
-                .use_lines(trade.kind.pledges(), trade.buyer, trade.seller, value)
-            {
+        if let Some(lines) = &mut self.lines {
+            match lines.use_lines(deal) {
                 Ok(()) => {}
                 Err(_) => unreachable(),
             }
         }
-        Ok(Outcome::Posted { value })
+        Ok(deal.value)
     }
 
     // What a house has to receive of a paper, or, below 0, to deliver.

@@ -2,7 +2,7 @@
 #![tactic(auto)]
 
 mod calls;
-mod outcome;
+mod not_posted;
 
 pub use calls::Ledger;
-pub use outcome::Outcome;
+pub use not_posted::NotPosted;

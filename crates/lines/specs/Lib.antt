@@ -1,3 +1,4 @@
 pub mod Credit
 pub mod Rules
 pub mod Of
+pub mod Printed

@@ -1,5 +1,6 @@
 -- The rules of credit: who may trade, what is refused, and in which order.
 use Rattle.std.specs.Prelude.{◌≡◌, ℕ, ◌+◌, ◌-◌, ◌^◌, ◌<◌, ◌≤◌, Bool, true, false, cond, not, ◌&&◌, ◌||◌, ◌⊎◌, List, [], ◌∷◌, Some, None, Ok, Err, Option, Result, MatchResult, ◌==◌, nat_lt}
+use Rattle.std.specs.Option.{option_or}
 use Rattle.lines.specs.Credit.{Credit, is, Same, Limited, Barred, Grown, Freed}
 use Rattle.lines.specs.declared.table.Fault.{Fault}
 use Rattle.lines.specs.declared.table.Fault.TheVariants.{OwnHouse, Blocked, Short}
@@ -7,6 +8,7 @@ use Rattle.lines.specs.declared.table.Refusal.{Refusal}
 use Rattle.lines.specs.declared.table.Refusal.TheVariants.{NoHouse, OneHouse, BadLimit}
 use Rattle.lines.specs.declared.table.LessUsed.{LessUsed}
 use Rattle.lines.specs.declared.table.Line.{Line}
+use Rattle.lines.specs.declared.table.Deal.{Deal}
 
 -- two houses: each below 16, and not one house twice
 abbrev pub two_houses : (a b : ℕ) → Bool
@@ -49,9 +51,7 @@ pair_refused a b =
 
 abbrev pub limit_refused : Credit → (a b pesos : ℕ) → Option Refusal
 limit_refused c a b pesos =
-    cond (not (nat_lt a 16) || not (nat_lt b 16)) (Some NoHouse)
-    (cond (a == b) (Some OneHouse)
-    (cond (nat_lt pesos (c.used a b) || nat_lt (10 ^ 15) pesos) (Some BadLimit) None))
+    option_or (pair_refused a b) (cond (nat_lt pesos (c.used a b) || nat_lt (10 ^ 15) pesos) (Some BadLimit) None)
 
 -- the limit of the line of a on b is set to `pesos`, and r answered
 pub record LimitSet (old : Credit) (a b pesos : ℕ) (r : Result (Unit {0}) Refusal) (new : Credit) : Type 0 where
@@ -76,49 +76,53 @@ lacks c a b value = nat_lt (c.limit a b) (c.used a b + value)
 abbrev pub missing : Credit → (a b value : ℕ) → ℕ
 missing c a b value = c.used a b + value - c.limit a b
 
--- why buyer and seller may not trade for the value, by the first rule that stands against it; `pledges` says which side pledges, the buyer first
-abbrev pub fault : Credit → (pledges : Bool × Bool) (buyer seller value : ℕ) → Option Fault
-fault c pledges buyer seller value =
-    cond (buyer == seller) (Some OwnHouse)
-    (cond (c.blocked buyer seller) (Some (Blocked buyer))
-    (cond (c.blocked seller buyer) (Some (Blocked seller))
-    (cond (pledges.0 && lacks c buyer seller value) (Some (Short buyer seller (missing c buyer seller value)))
-    (cond (pledges.1 && lacks c seller buyer value) (Some (Short seller buyer (missing c seller buyer value))) None))))
+-- why the value may not be used of the line of a on b
+abbrev pub short : Credit → (a b value : ℕ) → Option Fault
+short c a b value = cond (lacks c a b value) (Some (Short a b (missing c a b value))) None
+
+-- why the two may not trade, by the first rule that stands against it
+abbrev pub fault : Credit → Deal → Option Fault
+fault c d =
+    cond (d.buyer == d.seller) (Some OwnHouse)
+    (cond (c.blocked d.buyer d.seller) (Some (Blocked d.buyer))
+    (cond (c.blocked d.seller d.buyer) (Some (Blocked d.seller))
+    (cond (d.pledges.0 && lacks c d.buyer d.seller d.value) (Some (Short d.buyer d.seller (missing c d.buyer d.seller d.value)))
+    (cond (d.pledges.1 && lacks c d.seller d.buyer d.value) (Some (Short d.seller d.buyer (missing c d.seller d.buyer d.value))) None))))
 
 -- they may trade: two houses, neither blocks the other, and each pledging side's line on the other has the room
-pub record MayTrade (c : Credit) (pledges : Bool × Bool) (buyer seller value : ℕ) : Type 0 where
-  pub apart : buyer ≡ seller → ⊥
-  pub buyer_open : c.blocked buyer seller ≡ false
-  pub seller_open : c.blocked seller buyer ≡ false
-  pub buyer_room : pledges.0 ≡ true → c.used buyer seller + value ≤ c.limit buyer seller
-  pub seller_room : pledges.1 ≡ true → c.used seller buyer + value ≤ c.limit seller buyer
+pub record MayTrade (c : Credit) (d : Deal) : Type 0 where
+  pub apart : d.buyer ≡ d.seller → ⊥
+  pub buyer_open : c.blocked d.buyer d.seller ≡ false
+  pub seller_open : c.blocked d.seller d.buyer ≡ false
+  pub buyer_room : d.pledges.0 ≡ true → c.used d.buyer d.seller + d.value ≤ c.limit d.buyer d.seller
+  pub seller_room : d.pledges.1 ≡ true → c.used d.seller d.buyer + d.value ≤ c.limit d.seller d.buyer
 
 -- a trade falls on the line of g on k, since it is a pledging side's line on the other
 abbrev pub falls_on : (pledges : Bool × Bool) (buyer seller g k : ℕ) → Bool
 falls_on pledges buyer seller g k = (pledges.0 && is buyer seller g k) || (pledges.1 && is seller buyer g k)
 
 -- what a fault says is so
-abbrev pub Stands : Credit → (pledges : Bool × Bool) (buyer seller value : ℕ) → Fault → Type 0
-Stands c pledges buyer seller value OwnHouse = buyer ≡ seller
-Stands c pledges buyer seller value (Blocked by) =
-    ((by ≡ buyer) × (c.blocked buyer seller ≡ true)) ⊎ ((by ≡ seller) × (c.blocked seller buyer ≡ true))
-Stands c pledges buyer seller value (Short granter counterparty pesos) =
-    (falls_on pledges buyer seller granter counterparty ≡ true) × (c.used granter counterparty + value ≡ c.limit granter counterparty + pesos) × (0 < pesos)
+abbrev pub Stands : Credit → Deal → Fault → Type 0
+Stands c d OwnHouse = d.buyer ≡ d.seller
+Stands c d (Blocked by) =
+    ((by ≡ d.buyer) × (c.blocked d.buyer d.seller ≡ true)) ⊎ ((by ≡ d.seller) × (c.blocked d.seller d.buyer ≡ true))
+Stands c d (Short granter counterparty pesos) =
+    (falls_on d.pledges d.buyer d.seller granter counterparty ≡ true) × (c.used granter counterparty + d.value ≡ c.limit granter counterparty + pesos) × (0 < pesos)
 
 -- no fault is found exactly where they may trade, and one that is found stands
-abbrev pub Exact : Credit → (pledges : Bool × Bool) (buyer seller value : ℕ) → Option Fault → Type 0
-Exact c pledges buyer seller value None = MayTrade c pledges buyer seller value
-Exact c pledges buyer seller value (Some f) = (MayTrade c pledges buyer seller value → ⊥) × Stands c pledges buyer seller value f
+abbrev pub Exact : Credit → Deal → Result (Unit {0}) Fault → Type 0
+Exact c d (Ok done) = MayTrade c d
+Exact c d (Err f) = (MayTrade c d → ⊥) × Stands c d f
 
 -- a use of the lines by a trade, which takes `before` to `after`
-pub record Used (before : Credit) (pledges : Bool × Bool) (buyer seller value : ℕ) (after : Credit) : Type 0 where
-  pub may : fault before pledges buyer seller value ≡ None
-  pub grown : Grown before (falls_on pledges buyer seller) value after
+pub record Used (before : Credit) (d : Deal) (after : Credit) : Type 0 where
+  pub may : fault before d ≡ None
+  pub grown : Grown before (falls_on d.pledges d.buyer d.seller) d.value after
 
 -- the lines of a trade are to be used, and r answered
-pub record Uses (old : Credit) (pledges : Bool × Bool) (buyer seller value : ℕ) (r : Result (Unit {0}) Fault) (new : Credit) : Type 0 where
-  pub answer : r ≡ answered (fault old pledges buyer seller value)
-  pub after : MatchResult r (λ _. Used old pledges buyer seller value new) (λ _. Same old new)
+pub record Uses (old : Credit) (d : Deal) (r : Result (Unit {0}) Fault) (new : Credit) : Type 0 where
+  pub answer : r ≡ answered (fault old d)
+  pub after : MatchResult r (λ _. Used old d new) (λ _. Same old new)
 
 -- the line of a on b with what is used of it
 abbrev pub less_used : Credit → (a b : ℕ) → LessUsed
@@ -128,10 +132,10 @@ less_used c a b = record { granter = a; counterparty = b; used = c.used a b }
 abbrev pub free_refused : Credit → (a b value : ℕ) → Option LessUsed
 free_refused c a b value = cond (nat_lt (c.used a b) value) (Some (less_used c a b)) None
 
-abbrev pub pair_free_refused : Credit → (pledges : Bool × Bool) (buyer seller value : ℕ) → Option LessUsed
-pair_free_refused c pledges buyer seller value =
-    cond (pledges.0 && nat_lt (c.used buyer seller) value) (Some (less_used c buyer seller))
-    (cond (pledges.1 && nat_lt (c.used seller buyer) value) (Some (less_used c seller buyer)) None)
+abbrev pub pair_free_refused : Credit → Deal → Option LessUsed
+pair_free_refused c d =
+    cond (d.pledges.0 && nat_lt (c.used d.buyer d.seller) d.value) (Some (less_used c d.buyer d.seller))
+    (cond (d.pledges.1 && nat_lt (c.used d.seller d.buyer) d.value) (Some (less_used c d.seller d.buyer)) None)
 
 -- the line of a on b is to be freed of a value, and r answered
 pub record Frees (old : Credit) (a b value : ℕ) (r : Result (Unit {0}) LessUsed) (new : Credit) : Type 0 where
@@ -139,11 +143,10 @@ pub record Frees (old : Credit) (a b value : ℕ) (r : Result (Unit {0}) LessUse
   pub after : MatchResult r (λ _. Freed old (is a b) value new) (λ _. Same old new)
 
 -- the lines of a trade are to be freed, and r answered
-pub record FreesPair (old : Credit) (pledges : Bool × Bool) (buyer seller value : ℕ) (r : Result (Unit {0}) LessUsed) (new : Credit) : Type 0 where
-  pub answer : r ≡ answered (pair_free_refused old pledges buyer seller value)
-  pub after : MatchResult r (λ _. Freed old (falls_on pledges buyer seller) value new) (λ _. Same old new)
+pub record FreesPair (old : Credit) (d : Deal) (r : Result (Unit {0}) LessUsed) (new : Credit) : Type 0 where
+  pub answer : r ≡ answered (pair_free_refused old d)
+  pub after : MatchResult r (λ _. Freed old (falls_on d.pledges d.buyer d.seller) d.value new) (λ _. Same old new)
 
 -- THE LAW: what a use took from `before` to `old`, freeing it takes back, line by line and block by block
-abbrev pub Restores : (old : Credit) (pledges : Bool × Bool) (buyer seller value : ℕ) (r : Result (Unit {0}) LessUsed) (new : Credit) → Type 0
-Restores old pledges buyer seller value r new =
-    (before : Credit) → Used before pledges buyer seller value old → (r ≡ Ok tt) × Same before new
+abbrev pub Restores : (old : Credit) (d : Deal) (r : Result (Unit {0}) LessUsed) (new : Credit) → Type 0
+Restores old d r new = (before : Credit) → Used before d old → (r ≡ Ok tt) × Same before new

@@ -3,4 +3,4 @@
 
 pub mod table;
 
-pub use table::{Fault, LessUsed, Line, Lines, Refusal};
+pub use table::{Deal, Fault, LessUsed, Line, Lines, Refusal};

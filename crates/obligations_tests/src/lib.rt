@@ -5,7 +5,7 @@ use blotter::{Entry, Field, Flaw, read};
 use book::Book;
 use clerk::Stop;
 use journal::Journal;
-use ledger::{Ledger, Outcome};
+use ledger::{Ledger, NotPosted};
 use lines::Fault;
 use net_sheet::NetSheet;
 use trades::{Kind, Trade};
@@ -28,114 +28,93 @@ mod tests {
     }
 
     #[test]
-    fn lines_are_read(rt: HostRuntime) -> Result<(), Fail> {
-        assert!(rt; matches!(read(b""), Ok(Entry::Nothing)));
-        assert!(rt; matches!(read(b" \t # note"), Ok(Entry::Nothing)));
-        assert!(rt;
-            matches!(
-                read(b"limit 1 2 1000000000000000"),
-                Ok(Entry::Limit {
-                    granter: 1,
-                    counterparty: 2,
-                    pesos: 1_000_000_000_000_000
-                })
-            )
+    fn lines_are_read(rt: HostRuntime) {
+        assert_eq!(rt; read(b""), Ok(None));
+        assert_eq!(rt; read(b" \t # note"), Ok(None));
+        assert_eq!(rt;
+            read(b"limit 1 2 1000000000000000"),
+            Ok(Some(Entry::Limit {
+                granter: 1,
+                counterparty: 2,
+                pesos: 1_000_000_000_000_000
+            }))
         );
-        assert!(rt;
-            matches!(
-                read(b"block 3 4 on\r"),
-                Ok(Entry::Block {
-                    house: 3,
-                    other: 4,
-                    on: true
-                })
-            )
+        assert_eq!(rt;
+            read(b"block 3 4 on\r"),
+            Ok(Some(Entry::Block {
+                house: 3,
+                other: 4,
+                on: true
+            }))
         );
-        assert!(rt;
-            matches!(
-                read(b"block 3 4 off # no more"),
-                Ok(Entry::Block {
-                    house: 3,
-                    other: 4,
-                    on: false
-                })
-            )
+        assert_eq!(rt;
+            read(b"block 3 4 off # no more"),
+            Ok(Some(Entry::Block {
+                house: 3,
+                other: 4,
+                on: false
+            }))
         );
-        match read(b"rate 3 4 7 1000000 5000 365") {
-            Ok(Entry::Trade(t)) => {
-                assert!(rt; matches!(t.kind, Kind::Rate));
-                assert_eq!(rt; (t.buyer, t.seller, t.paper), (3, 4, 7));
-                assert_eq!(rt; (t.lots, t.quote, t.days), (1_000_000, 5_000, 365));
-                Ok(())
-            }
-            _ => Err(Fail::new("not a trade")),
-        }
+        assert_eq!(rt;
+            read(b"rate 3 4 7 1000000 5000 365"),
+            Ok(Some(Entry::Trade(Trade {
+                kind: Kind::Rate,
+                buyer: 3,
+                seller: 4,
+                paper: 7,
+                lots: 1_000_000,
+                quote: 5_000,
+                days: 365,
+            })))
+        );
     }
 
     #[test]
     fn flaws_are_told(rt: HostRuntime) {
-        assert!(rt; matches!(read(b"bond 1 2 0 5 100 0"), Err(Flaw::Unknown)));
-        assert!(rt; matches!(read(b"price 1 2 0 5 100"), Err(Flaw::Missing(Field::Days))));
-        assert!(rt;
-            matches!(
-                read(b"price 1 2 0 5 1e3 0"),
-                Err(Flaw::NoNumber(Field::Quote))
-            )
+        assert_eq!(rt; read(b"bond 1 2 0 5 100 0"), Err(Flaw::Unknown));
+        assert_eq!(rt; read(b"price 1 2 0 5 100"), Err(Flaw::Missing(Field::Days)));
+        assert_eq!(rt;
+            read(b"price 1 2 0 5 1e3 0"),
+            Err(Flaw::NoNumber(Field::Quote))
         );
-        assert!(rt; matches!(read(b"price 1 2 0 5 100 0 9"), Err(Flaw::Surplus)));
-        assert!(rt; matches!(read(b"limit 16 2 5"), Err(Flaw::NoHouse(Field::Granter))));
-        assert!(rt; matches!(read(b"block 1 2 yes"), Err(Flaw::NoSwitch)));
+        assert_eq!(rt; read(b"price 1 2 0 5 100 0 9"), Err(Flaw::Surplus));
+        assert_eq!(rt; read(b"limit 16 2 5"), Err(Flaw::NoHouse(Field::Granter)));
+        assert_eq!(rt; read(b"block 1 2 yes"), Err(Flaw::NoSwitch));
     }
 
     #[test]
     fn figures_out_of_range_are_told(rt: HostRuntime) {
-        assert!(rt;
-            matches!(
-                read(b"price 16 16 8 0 0 366"),
-                Err(Flaw::Trade(trades::Flaw::NoBuyer))
-            )
+        assert_eq!(rt;
+            read(b"price 16 16 8 0 0 366"),
+            Err(Flaw::Trade(trades::Flaw::NoBuyer))
         );
-        assert!(rt;
-            matches!(
-                read(b"price 1 16 8 0 0 366"),
-                Err(Flaw::Trade(trades::Flaw::NoSeller))
-            )
+        assert_eq!(rt;
+            read(b"price 1 16 8 0 0 366"),
+            Err(Flaw::Trade(trades::Flaw::NoSeller))
         );
-        assert!(rt;
-            matches!(
-                read(b"price 1 1 8 0 0 366"),
-                Err(Flaw::Trade(trades::Flaw::OneHouse))
-            )
+        assert_eq!(rt;
+            read(b"price 1 1 8 0 0 366"),
+            Err(Flaw::Trade(trades::Flaw::OneHouse))
         );
-        assert!(rt;
-            matches!(
-                read(b"price 1 2 8 0 0 366"),
-                Err(Flaw::Trade(trades::Flaw::NoPaper))
-            )
+        assert_eq!(rt;
+            read(b"price 1 2 8 0 0 366"),
+            Err(Flaw::Trade(trades::Flaw::NoPaper))
         );
-        assert!(rt;
-            matches!(
-                read(b"price 1 2 7 1000001 0 366"),
-                Err(Flaw::Trade(trades::Flaw::Lots))
-            )
+        assert_eq!(rt;
+            read(b"price 1 2 7 1000001 0 366"),
+            Err(Flaw::Trade(trades::Flaw::Lots))
         );
-        assert!(rt;
-            matches!(
-                read(b"price 1 2 7 1 200001 366"),
-                Err(Flaw::Trade(trades::Flaw::Quote(200_000)))
-            )
+        assert_eq!(rt;
+            read(b"price 1 2 7 1 200001 366"),
+            Err(Flaw::Trade(trades::Flaw::Quote(200_000)))
         );
-        assert!(rt;
-            matches!(
-                read(b"rate 1 2 7 1 5001 366"),
-                Err(Flaw::Trade(trades::Flaw::Quote(5_000)))
-            )
+        assert_eq!(rt;
+            read(b"rate 1 2 7 1 5001 366"),
+            Err(Flaw::Trade(trades::Flaw::Quote(5_000)))
         );
-        assert!(rt;
-            matches!(
-                read(b"price 1 2 7 1 200000 366"),
-                Err(Flaw::Trade(trades::Flaw::Days))
-            )
+        assert_eq!(rt;
+            read(b"price 1 2 7 1 200000 366"),
+            Err(Flaw::Trade(trades::Flaw::Days))
         );
     }
 
@@ -144,30 +123,26 @@ mod tests {
     fn lines_to_the_peso(rt: HostRuntime) {
         let sale = trade(Kind::Price, 1, 2, 500, 98_250);
         let mut day = Ledger::new(NetSheet::new());
-        assert!(rt; matches!(day.take(sale), Ok(Outcome::Posted { value: 49_125_000 })));
-        assert!(rt; day.set_limit(1, 2, 49_125_000).is_ok());
-        assert!(rt; day.set_limit(2, 1, 49_124_999).is_ok());
-        assert!(rt;
-            matches!(
-                day.take(sale),
-                Ok(Outcome::PassedOver(Fault::Short {
-                    granter: 2,
-                    counterparty: 1,
-                    pesos: 1
-                }))
-            )
+        assert_eq!(rt; day.take(sale), Ok(49_125_000));
+        assert_eq!(rt; day.set_limit(1, 2, 49_125_000), Ok(()));
+        assert_eq!(rt; day.set_limit(2, 1, 49_124_999), Ok(()));
+        assert_eq!(rt;
+            day.take(sale),
+            Err(NotPosted::PassedOver(Fault::Short {
+                granter: 2,
+                counterparty: 1,
+                pesos: 1
+            }))
         );
-        assert!(rt; day.set_limit(2, 1, 49_125_000).is_ok());
-        assert!(rt; matches!(day.take(sale), Ok(Outcome::Posted { value: 49_125_000 })));
-        assert!(rt;
-            matches!(
-                day.take(sale),
-                Ok(Outcome::PassedOver(Fault::Short {
-                    granter: 1,
-                    counterparty: 2,
-                    pesos: 49_125_000
-                }))
-            )
+        assert_eq!(rt; day.set_limit(2, 1, 49_125_000), Ok(()));
+        assert_eq!(rt; day.take(sale), Ok(49_125_000));
+        assert_eq!(rt;
+            day.take(sale),
+            Err(NotPosted::PassedOver(Fault::Short {
+                granter: 1,
+                counterparty: 2,
+                pesos: 49_125_000
+            }))
         );
         assert_eq!(rt; (day.balance(1, 0), day.balance(2, 0)), (1_000, -1_000));
         assert_eq!(rt; (day.cash(1), day.cash(2)), (-98_250_000, 98_250_000));
@@ -178,14 +153,12 @@ mod tests {
     fn only_the_lender_pledges(rt: HostRuntime) {
         let loan = trade(Kind::Interbank, 5, 6, 1, 1);
         let mut day = Ledger::new(NetSheet::new());
-        assert!(rt; day.set_limit(6, 5, 100_000).is_ok());
-        assert!(rt; matches!(day.take(loan), Ok(Outcome::Posted { value: 100_000 })));
-        assert!(rt; day.set_block(5, 6, true).is_ok());
-        assert!(rt;
-            matches!(
-                day.take(loan),
-                Ok(Outcome::PassedOver(Fault::Blocked { by: 5 }))
-            )
+        assert_eq!(rt; day.set_limit(6, 5, 100_000), Ok(()));
+        assert_eq!(rt; day.take(loan), Ok(100_000));
+        assert_eq!(rt; day.set_block(5, 6, true), Ok(()));
+        assert_eq!(rt;
+            day.take(loan),
+            Err(NotPosted::PassedOver(Fault::Blocked { by: 5 }))
         );
     }
 
@@ -194,9 +167,12 @@ mod tests {
         let sale = trade(Kind::Price, 1, 2, 1, 3);
         let mut day = Ledger::new(Journal::new());
         for _ in 0..256u16 {
-            assert!(rt; matches!(day.take(sale), Ok(Outcome::Posted { value: 3 })));
+            assert_eq!(rt; day.take(sale), Ok(3));
         }
-        assert!(rt; matches!(day.take(sale), Err(book::Refusal::NoPlace)));
+        assert_eq!(rt;
+            day.take(sale),
+            Err(NotPosted::Refused(book::Refusal::NoPlace))
+        );
         assert_eq!(rt; (day.balance(1, 0), day.cash(1)), (256, -768));
     }
 

@@ -1,6 +1,6 @@
 pub mod Lists
-pub mod Refused
 pub mod Meeting
+pub mod Kept
 pub mod Fair
 pub mod Sound
 pub mod Always

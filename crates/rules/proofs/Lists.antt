@@ -1,63 +1,78 @@
 -- What stands in a list, and lists in order.
-use Rattle.std.proofs.Common.{◌≡◌, Bool, true, List, [], ◌∷◌, filter, sym, refl, ap, ◌∙◌, subst, inl, inr}
-use Rattle.std.proofs.lemmas.Bool.{cases_Bool}
-use Rattle.rules.specs.Laws.{In, Ordered}
+use Rattle.std.proofs.Common.{◌≡◌, ℕ, zero, suc, ◌<◌, Bool, true, ◌⊎◌, List, [], ◌∷◌, length, get_or, Some, filter, find, sym, refl, ap, ◌∙◌, subst, inl, inr, arith}
+use Rattle.std.specs.Prelude.{Contains, AllPairs}
+use Rattle.std.proofs.lemmas.Bool.{cases_Bool, both_ways}
+use Rattle.std.proofs.lemmas.Option.{none-some, same_Some}
+use Rattle.std.proofs.lemmas.List.Elements.{All-contains, All-filter, All-contains_itself, filter_passes, Contains-get_or, Contains-append_right}
+use Rattle.std.proofs.lemmas.List.Kept.{AllPairs-cons}
 
 module _ {X : Type 0} where
-  pub in_kept : (f : X → Bool) (xs : List X) (x : X) → In x (filter f xs) → In x xs × (f x ≡ true)
-  in_kept f [] x h = absurd h
-  in_kept f (y ∷ ys) x h = elim (cases_Bool (f y)) [
-    | inl t ↦
-        let there : In x (y ∷ filter f ys) = rw t at h in
-        elim there [
-          | inl e ↦ (inl e, ap f e ∙ t)
-          | inr i ↦ (inr (in_kept f ys x i).0, (in_kept f ys x i).1)
-        ]
-    | inr u ↦ let there : In x (filter f ys) = rw u at h in (inr (in_kept f ys x there).0, (in_kept f ys x there).1)
+  first_or_later_at : (y : X) (ys : List X) (x : X) (k : ℕ) → k < length (y ∷ ys) → get_or (y ∷ ys) k x ≡ x → (x ≡ y) ⊎ Contains ys x
+  first_or_later_at y ys x zero h e = inl (sym e)
+  first_or_later_at y ys x (suc k) h e = inr (k, omega arith, e)
+
+  pub first_or_later : (y : X) (ys : List X) (x : X) → Contains (y ∷ ys) x → (x ≡ y) ⊎ Contains ys x
+  first_or_later y ys x c = first_or_later_at y ys x c.0 c.1 c.2
+
+  pub here : (x : X) (xs : List X) → Contains (x ∷ xs) x
+  here x xs = Contains-get_or (x ∷ xs) 0 x (omega arith)
+
+  pub later : (y : X) (ys : List X) (x : X) → Contains ys x → Contains (y ∷ ys) x
+  later y ys x c = Contains-append_right (y ∷ []) ys x c
+
+  pub none_in : (x : X) → Contains [] x → ⊥
+  none_in x c = omega (arith, c.1)
+
+  pub in_kept : (f : X → Bool) (xs : List X) (x : X) → Contains (filter f xs) x → Contains xs x × (f x ≡ true)
+  in_kept f xs x c = (
+    All-contains (Contains xs) (filter f xs) x (All-filter f (Contains xs) xs (All-contains_itself xs)) c,
+    All-contains (λ y. f y ≡ true) (filter f xs) x (filter_passes f xs) c,
+  )
+
+  pub kept_in : (f : X → Bool) (xs : List X) (x : X) → Contains xs x → f x ≡ true → Contains (filter f xs) x
+  kept_in f [] x c e = absurd (none_in x c)
+  kept_in f (y ∷ ys) x c e = elim (cases_Bool (f y)) [
+    | inl t ↦ rw t (elim (first_or_later y ys x c) [ inl is ↦ rw is (here y (filter f ys)) | inr i ↦ later y (filter f ys) x (kept_in f ys x i e) ])
+    | inr u ↦ rw u (elim (first_or_later y ys x c) [ inl is ↦ absurd (both_ways (f y) u (ap f (sym is) ∙ e)) | inr i ↦ kept_in f ys x i e ])
   ]
 
-  pub kept_in : (f : X → Bool) (xs : List X) (x : X) → In x xs → f x ≡ true → In x (filter f xs)
-  kept_in f [] x h e = absurd h
-  kept_in f (y ∷ ys) x (inl is) e = let t : f y ≡ true = ap f (sym is) ∙ e in rw t (inl is)
-  kept_in f (y ∷ ys) x (inr i) e = elim (cases_Bool (f y)) [
-    | inl t ↦ rw t (inr (kept_in f ys x i e))
-    | inr u ↦ rw u (kept_in f ys x i e)
+  pub find_in : (f : X → Bool) (xs : List X) (x : X) → find f xs ≡ Some x → Contains xs x
+  find_in f [] x e = absurd (none-some x e)
+  find_in f (y ∷ ys) x e = elim (cases_Bool (f y)) [
+    | inl t ↦ subst (Contains (y ∷ ys)) (same_Some y x (rw t at e)) (here y ys)
+    | inr u ↦ later y ys x (find_in f ys x (rw u at e))
   ]
 
-  -- what is kept is in the order that it had
-  pub kept_ordered : (R : X → X → Type 0) (f : X → Bool) (xs : List X) → Ordered R xs → Ordered R (filter f xs)
-  kept_ordered R f [] o = tt
-  kept_ordered R f (x ∷ xs) o = elim (cases_Bool (f x)) [
-    | inl t ↦ rw t ((λ y i. o.0 y (in_kept f xs y i).0), kept_ordered R f xs o.1)
-    | inr u ↦ rw u (kept_ordered R f xs o.1)
-  ]
+  module _ (R : X → X → Type 0) where
+    -- the first element to the later ones, and these among themselves
+    pub pairs_from : (x : X) (xs : List X) → AllPairs R (x ∷ xs) → (y : X) → Contains xs y → R x y
+    pairs_from x xs p y c = subst (R x) c.2 (p 0 (suc c.0) y (omega arith) (omega (arith, c.1)))
 
-  -- a weaker order
-  pub ordered_by : (R S : X → X → Type 0) (xs : List X) → ((x y : X) → In x xs → In y xs → R x y → S x y) → Ordered R xs → Ordered S xs
-  ordered_by R S [] f o = tt
-  ordered_by R S (x ∷ xs) f o = ((λ y i. f x y (inl refl) (inr i) (o.0 y i)), ordered_by R S xs (λ y z i j. f y z (inr i) (inr j)) o.1)
+    pub pairs_rest : (x : X) (xs : List X) → AllPairs R (x ∷ xs) → AllPairs R xs
+    pairs_rest x xs p i j d h k = p (suc i) (suc j) d (omega arith) (omega arith)
+
+    pub pairs_more : (x : X) (xs : List X) → ((y : X) → Contains xs y → R x y) → AllPairs R xs → AllPairs R (x ∷ xs)
+    pairs_more x xs f p = AllPairs-cons R x xs (λ k d h. f (get_or xs k d) (Contains-get_or xs k d h)) p
+
+    pub pairs_by : (S : X → X → Type 0) (xs : List X) → ((x y : X) → Contains xs x → Contains xs y → R x y → S x y) → AllPairs R xs → AllPairs S xs
+    pairs_by S xs f p i j d h k = f (get_or xs i d) (get_or xs j d) (Contains-get_or xs i d (omega arith)) (Contains-get_or xs j d k) (p i j d h k)
 
   -- two lists in a strict order that hold the same are one
-  pub same_ordered : (R : X → X → Type 0) → ((x y : X) → R x y → R y x → ⊥) → (xs ys : List X) → Ordered R xs → Ordered R ys
-      → ((z : X) → In z xs → In z ys) → ((z : X) → In z ys → In z xs) → xs ≡ ys
+  pub same_ordered : (R : X → X → Type 0) → ((x y : X) → R x y → R y x → ⊥) → (xs ys : List X) → AllPairs R xs → AllPairs R ys
+      → ((z : X) → Contains xs z → Contains ys z) → ((z : X) → Contains ys z → Contains xs z) → xs ≡ ys
   same_ordered R never [] [] o p to from = refl
-  same_ordered R never [] (y ∷ ys) o p to from = absurd (from y (inl refl))
-  same_ordered R never (x ∷ xs) [] o p to from = absurd (to x (inl refl))
+  same_ordered R never [] (y ∷ ys) o p to from = absurd (none_in y (from y (here y ys)))
+  same_ordered R never (x ∷ xs) [] o p to from = absurd (none_in x (to x (here x xs)))
   same_ordered R never (x ∷ xs) (y ∷ ys) o p to from =
-      let heads : x ≡ y = elim (to x (inl refl)) [
+      let heads : x ≡ y = elim (first_or_later y ys x (to x (here x xs))) [
         | inl e ↦ e
-        | inr i ↦ elim (from y (inl refl)) [
+        | inr i ↦ elim (first_or_later x xs y (from y (here y ys))) [
           | inl e ↦ sym e
-          | inr j ↦ absurd (never x y (o.0 y j) (p.0 x i))
+          | inr j ↦ absurd (never x y (pairs_from R x xs o y j) (pairs_from R y ys p x i))
         ]
       ] in
-      let tails : xs ≡ ys = same_ordered R never xs ys o.1 p.1
-      (λ z i. elim (to z (inr i)) [
-        | inl e ↦ absurd (let r : R x x = subst (R x) (e ∙ sym heads) (o.0 z i) in never x x r r)
-        | inr j ↦ j
-      ])
-      (λ z i. elim (from z (inr i)) [
-        | inl e ↦ absurd (let r : R y y = subst (R y) (e ∙ heads) (p.0 z i) in never y y r r)
-        | inr j ↦ j
-      ]) in
+      let once : (z : X) (zs : List X) → AllPairs R (z ∷ zs) → Contains zs z → ⊥ = λ z zs q i. let r = pairs_from R z zs q z i in never z z r r in
+      let tails : xs ≡ ys = same_ordered R never xs ys (pairs_rest R x xs o) (pairs_rest R y ys p)
+      (λ z i. elim (first_or_later y ys z (to z (later x xs z i))) [ inl e ↦ absurd (once x xs o (subst (Contains xs) (e ∙ sym heads) i)) | inr j ↦ j ])
+      (λ z i. elim (first_or_later x xs z (from z (later y ys z i))) [ inl e ↦ absurd (once y ys p (subst (Contains ys) (e ∙ heads) i)) | inr j ↦ j ]) in
       cc

@@ -1,14 +1,21 @@
 -- The offers that an entry goes through.
-use Rattle.std.proofs.Common.{◌≡◌, ℕ, Bool, true, false, ◌&&◌, ◌||◌, eqb, ltb, List, [], ◌∷◌, filter, sym, refl, ap, ◌∙◌, subst, inl, inr, arith}
+use Rattle.std.proofs.Common.{◌≡◌, ℕ, Bool, true, false, ◌&&◌, ◌||◌, ◌⊎◌, eqb, ltb, List, [], ◌∷◌, filter, sym, refl, ◌∙◌, subst, inl, inr, arith}
 use Rattle.std.proofs.lemmas.Bool.{cases_Bool}
 use Rattle.std.proofs.lemmas.Bool.Decides.{nat_tests}
+use Rattle.std.proofs.lemmas.List.Kept.{AllPairs-filter}
+use Rattle.std.proofs.lemmas.List.Sorted.{IsPermutation-refl, IsPermutation-sym, IsPermutation-cons, IsPermutation-middle, IsPermutation-trans, Contains-permutation}
+use Rattle.std.specs.Prelude.{Contains, AllPairs, IsPermutation}
 use Rattle.market.specs.Meaning.{Meaning}
 use Rattle.rules.specs.declared.offers.Offer.{Offer}
 use Rattle.rules.specs.declared.offers.Side.{Side}
 use Rattle.rules.specs.declared.offers.Side.TheVariants.{Buy, Sell}
 use Rattle.rules.specs.Board.{better, ahead, placed, best_first, meets, met}
-use Rattle.rules.specs.Laws.{In, Ordered, NumbersDiffer, Crosses, MetBefore, Meets, WhoIsMet, MemoryDoesNotMatter}
-use Rattle.rules.proofs.Lists.{in_kept, kept_in, kept_ordered, ordered_by, same_ordered}
+use Rattle.rules.specs.Laws.{NumbersDiffer, Crosses, MetBefore, Meets, WhoIsMet, MemoryDoesNotMatter}
+use Rattle.rules.proofs.Lists.{first_or_later, here, later, none_in, in_kept, kept_in, pairs_from, pairs_rest, pairs_more, pairs_by, same_ordered}
+
+-- offers of two numbers
+abbrev pub Differ : Offer → Offer → Type 0
+Differ o p = o.number ≡ p.number → ⊥
 
 abbrev Ahead : Meaning → Offer → Offer → Type 0
 Ahead m o p = ahead m o p ≡ true
@@ -34,67 +41,47 @@ module _ (m : Meaning) where
       before_chain o.side (rank o) o.number (rank p) p.number (rank q) q.number x
       (subst (λ (d : Side). before d (rank p) p.number (rank q) q.number ≡ true) (sym e) y)
 
-  ahead_other : (o p : Offer) → o.side ≡ p.side → (o.number ≡ p.number → ⊥) → ahead m o p ≡ false → Ahead m p o
+  ahead_other : (o p : Offer) → o.side ≡ p.side → Differ o p → ahead m o p ≡ false → Ahead m p o
   ahead_other o p e d x =
       subst (λ (s : Side). before s (rank p) p.number (rank o) o.number ≡ true) e
       (before_other o.side (rank o) o.number (rank p) p.number d x)
 
-  in_placed : (o : Offer) (ps : List Offer) (q : Offer) → In q (placed m o ps) → In q (o ∷ ps)
-  in_placed o [] q h = h
-  in_placed o (p ∷ ps) q h = elim (cases_Bool (ahead m o p)) [
-    | inl t ↦ rw t at h
-    | inr u ↦
-        let there : In q (p ∷ placed m o ps) = rw u at h in
-        elim there [
-          | inl e ↦ inr (inl e)
-          | inr i ↦ elim (in_placed o ps q i) [ inl e ↦ inl e | inr j ↦ inr (inr j) ]
-        ]
+  -- the order moves offers, and keeps each
+  placed_moves : (o : Offer) (ps : List Offer) → IsPermutation (o ∷ ps) (placed m o ps)
+  placed_moves o [] = IsPermutation-refl (o ∷ [])
+  placed_moves o (p ∷ ps) = elim (cases_Bool (ahead m o p)) [
+    | inl t ↦ rw t (IsPermutation-refl (o ∷ p ∷ ps))
+    | inr u ↦ rw u (IsPermutation-trans (o ∷ p ∷ ps) (p ∷ o ∷ ps) (p ∷ placed m o ps) (IsPermutation-middle (o ∷ []) p ps)
+        (IsPermutation-cons p (o ∷ ps) (placed m o ps) (placed_moves o ps)))
   ]
 
-  placed_in : (o : Offer) (ps : List Offer) (q : Offer) → In q (o ∷ ps) → In q (placed m o ps)
-  placed_in o [] q h = h
-  placed_in o (p ∷ ps) q h = elim (cases_Bool (ahead m o p)) [
-    | inl t ↦ rw t h
-    | inr u ↦ rw u (elim h [
-      | inl e ↦ inr (placed_in o ps q (inl e))
-      | inr i ↦ elim i [ inl e ↦ inl e | inr j ↦ inr (placed_in o ps q (inr j)) ]
-    ])
-  ]
+  best_moves : (os : List Offer) → IsPermutation os (best_first m os)
+  best_moves [] = IsPermutation-refl []
+  best_moves (o ∷ os) =
+      IsPermutation-trans (o ∷ os) (o ∷ best_first m os) (placed m o (best_first m os)) (IsPermutation-cons o os (best_first m os) (best_moves os))
+      (placed_moves o (best_first m os))
 
-  in_best : (os : List Offer) (q : Offer) → In q (best_first m os) → In q os
-  in_best [] q h = h
-  in_best (o ∷ os) q h = elim (in_placed o (best_first m os) q h) [ inl e ↦ inl e | inr i ↦ inr (in_best os q i) ]
+  in_best : (os : List Offer) (q : Offer) → Contains (best_first m os) q → Contains os q
+  in_best os q c = Contains-permutation (best_first m os) os q (IsPermutation-sym os (best_first m os) (best_moves os)) c
 
-  best_in : (os : List Offer) (q : Offer) → In q os → In q (best_first m os)
-  best_in [] q h = h
-  best_in (o ∷ os) q (inl e) = placed_in o (best_first m os) q (inl e)
-  best_in (o ∷ os) q (inr i) = placed_in o (best_first m os) q (inr (best_in os q i))
+  -- S holds of any two offers of a list, the earlier first; and so R of any two in their order
+  module _ (S R : Offer → Offer → Type 0) (front : (o p q : Offer) → S o p → S o q → ahead m o p ≡ true → (q ≡ p) ⊎ R p q → R o q) (back : (o p : Offer) → S o p → ahead m o p ≡ false → R p o) where
+    placed_ordered : (o : Offer) (ps : List Offer) → ((p : Offer) → Contains ps p → S o p) → AllPairs R ps → AllPairs R (placed m o ps)
+    placed_ordered o [] s h = pairs_more R o [] (λ q i. absurd (none_in q i)) h
+    placed_ordered o (p ∷ ps) s h = elim (cases_Bool (ahead m o p)) [
+      | inl t ↦ rw t (pairs_more R o (p ∷ ps)
+          (λ q i. front o p q (s p (here p ps)) (s q i) t (elim (first_or_later p ps q i) [ inl e ↦ inl e | inr j ↦ inr (pairs_from R p ps h q j) ])) h)
+      | inr u ↦ rw u (pairs_more R p (placed m o ps)
+          (λ q i. elim (first_or_later o ps q (Contains-permutation (placed m o ps) (o ∷ ps) q (IsPermutation-sym (o ∷ ps) (placed m o ps) (placed_moves o ps)) i)) [
+            | inl e ↦ subst (R p) (sym e) (back o p (s p (here p ps)) u)
+            | inr j ↦ pairs_from R p ps h q j
+          ])
+          (placed_ordered o ps (λ q i. s q (later p ps q i)) (pairs_rest R p ps h)))
+    ]
 
-  placed_ordered : (o : Offer) (ps : List Offer) → ((p : Offer) → In p ps → (o.side ≡ p.side) × (o.number ≡ p.number → ⊥)) → Ordered (Ahead m) ps → Ordered (Ahead m) (placed m o ps)
-  placed_ordered o [] apart h = ((λ y i. absurd i), tt)
-  placed_ordered o (p ∷ ps) apart h = elim (cases_Bool (ahead m o p)) [
-    | inl t ↦ rw t (
-      (λ y i. elim i [
-        | inl e ↦ subst (Ahead m o) (sym e) t
-        | inr j ↦ ahead_chain o p y (apart p (inl refl)).0 t (h.0 y j)
-      ]),
-      h,
-    )
-    | inr u ↦ rw u (
-      (λ y i. elim (in_placed o ps y i) [
-        | inl e ↦ subst (Ahead m p) (sym e) (ahead_other o p (apart p (inl refl)).0 (apart p (inl refl)).1 u)
-        | inr j ↦ h.0 y j
-      ]),
-      placed_ordered o ps (λ q i. apart q (inr i)) h.1,
-    )
-  ]
-
-  best_ordered : (side : Side) (os : List Offer) → ((o : Offer) → In o os → o.side ≡ side) → NumbersDiffer os → Ordered (Ahead m) (best_first m os)
-  best_ordered side [] of_side d = tt
-  best_ordered side (o ∷ os) of_side d =
-      placed_ordered o (best_first m os)
-      (λ p i. let there = in_best os p i in (of_side o (inl refl) ∙ sym (of_side p (inr there)), d.0 p there))
-      (best_ordered side os (λ p i. of_side p (inr i)) d.1)
+    best_ordered : (os : List Offer) → AllPairs S os → AllPairs R (best_first m os)
+    best_ordered [] s = λ i j d h k. absurd (omega (arith, k))
+    best_ordered (o ∷ os) s = placed_ordered o (best_first m os) (λ p i. pairs_from S o os s p (in_best os p i)) (best_ordered os (pairs_rest S o os s))
 
   -- what the test on two offers tells, and what it takes
   meets_tells : (side other : Side) (e o : Offer) → e.side ≡ side → o.side ≡ other → meets m e o ≡ true → Crosses m side e o
@@ -107,7 +94,7 @@ module _ (m : Meaning) where
   meets_from Buy e o p c = rw (p, c.1) (grind (arith, nat_tests, c.0, c.2))
   meets_from Sell e o p c = rw (p, c.1) (grind (arith, nat_tests, c.0, c.2))
 
-  pub met_crosses : (e : Offer) (os : List Offer) (o : Offer) → In o (met m e os) → In o os × Crosses m e.side e o
+  pub met_crosses : (e : Offer) (os : List Offer) (o : Offer) → Contains (met m e os) o → Contains os o × Crosses m e.side e o
   met_crosses e os o i =
       let there = in_kept (meets m e) os o (in_best (filter (meets m e) os) o i) in
       (there.0, meets_tells e.side o.side e o refl refl there.1)
@@ -131,46 +118,27 @@ module _ (m : Meaning) where
   never_both Sell o p (inr x) (inl y) = omega (arith, x.0)
   never_both Sell o p (inr x) (inr y) = omega (arith, x.1, y.1)
 
-  placed_differ : (o : Offer) (ps : List Offer) → ((p : Offer) → In p ps → o.number ≡ p.number → ⊥) → NumbersDiffer ps → NumbersDiffer (placed m o ps)
-  placed_differ o [] apart h = ((λ y i. absurd i), tt)
-  placed_differ o (p ∷ ps) apart h = elim (cases_Bool (ahead m o p)) [
-    | inl t ↦ rw t (apart, h)
-    | inr u ↦ rw u (
-      (λ y i. elim (in_placed o ps y i) [
-        | inl e ↦ λ same. apart p (inl refl) (sym (same ∙ ap (λ (x : Offer). x.number) e))
-        | inr j ↦ h.0 y j
-      ]),
-      placed_differ o ps (λ q i. apart q (inr i)) h.1,
-    )
-  ]
-
-  best_differ : (os : List Offer) → NumbersDiffer os → NumbersDiffer (best_first m os)
-  best_differ [] d = tt
-  best_differ (o ∷ os) d = placed_differ o (best_first m os) (λ p i. d.0 p (in_best os p i)) (best_differ os d.1)
-
--- offers that one entering offer crosses are of one side
-one_side : (m : Meaning) (e : Offer) (os : List Offer) → ((o : Offer) → In o os → Crosses m e.side e o) → (side : Side) × ((o : Offer) → In o os → o.side ≡ side)
-one_side m e [] c = (e.side, λ o i. absurd i)
-one_side m e (p ∷ os) c = (p.side, λ o i. other_side m e.side e o p (c o i) (c p (inl refl)))
-
 module _ (m : Meaning) (e : Offer) (os : List Offer) (d : NumbersDiffer os) where
-  pub met_meets : Meets m e os (met m e os)
+  met_meets : Meets m e os (met m e os)
   met_meets =
       let kept = filter (meets m e) os in
-      let differ = kept_ordered (λ o p. o.number ≡ p.number → ⊥) (meets m e) os d in
-      let crossing : (o : Offer) → In o kept → Crosses m e.side e o = λ o i. meets_tells m e.side o.side e o refl refl (in_kept (meets m e) os o i).1 in
-      let sided = one_side m e kept crossing in
+      let Apart = λ (o p : Offer). (o.side ≡ p.side) × Differ o p in
+      let differ = AllPairs-filter Differ (meets m e) os d in
+      let crossing : (o : Offer) → Contains kept o → Crosses m e.side e o = λ o i. meets_tells m e.side o.side e o refl refl (in_kept (meets m e) os o i).1 in
+      let apart = pairs_by Differ Apart kept (λ o p i j h. (other_side m e.side e o p (crossing o i) (crossing p j), h)) differ in
       record {
         crossing = met_crosses m e os;
-        all = λ o i c. best_in m kept o (kept_in (meets m e) os o i (meets_from m e.side e o refl c));
-        once = best_differ m kept differ;
+        all = λ o i c. Contains-permutation kept (best_first m kept) o (best_moves m kept) (kept_in (meets m e) os o i (meets_from m e.side e o refl c));
+        once = best_ordered m Differ Differ (λ o p q a b t e. b) (λ o p a u same. a (sym same)) kept differ;
         in_order =
-            ordered_by (Ahead m) (MetBefore m e.side) (best_first m kept) (λ o p i j a. ahead_tells m e.side e o p (crossing o (in_best m kept o i)) a)
-            (best_ordered m sided.0 kept sided.1 differ);
+            pairs_by (Ahead m) (MetBefore m e.side) (best_first m kept) (λ o p i j a. ahead_tells m e.side e o p (crossing o (in_best m kept o i)) a)
+            (best_ordered m Apart (Ahead m)
+            (λ o p q a b t next. elim next [ inl e ↦ subst (Ahead m o) (sym e) t | inr then ↦ ahead_chain m o p q a.0 t then ])
+            (λ o p a u. ahead_other m o p a.0 a.1 u) kept apart);
       }
 
 -- two lists of which each holds exactly the offers that cross, in order, are one
-meets_same : (m : Meaning) (e : Offer) (os ps xs ys : List Offer) → ((o : Offer) → In o os → In o ps) → ((o : Offer) → In o ps → In o os) → Meets m e os xs → Meets m e ps ys → xs ≡ ys
+meets_same : (m : Meaning) (e : Offer) (os ps xs ys : List Offer) → ((o : Offer) → Contains os o → Contains ps o) → ((o : Offer) → Contains ps o → Contains os o) → Meets m e os xs → Meets m e ps ys → xs ≡ ys
 meets_same m e os ps xs ys to from a b =
     same_ordered (MetBefore m e.side) (never_both m e.side) xs ys a.in_order b.in_order
     (λ o i. b.all o (to o (a.crossing o i).0) (a.crossing o i).1)

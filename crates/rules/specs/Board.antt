@@ -1,5 +1,6 @@
 -- The standing offers: which of them an entering offer meets, and in which order.
-use Rattle.std.specs.Prelude.{ℕ, ◌-◌, min, Bool, true, false, cond, not, ◌&&◌, ◌||◌, ltb, List, [], ◌∷◌, map, filter, ◌==◌, nat_le, nat_lt}
+use Rattle.std.specs.Prelude.{ℕ, ◌-◌, min, Bool, true, false, cond, not, ◌&&◌, ◌||◌, List, [], ◌∷◌, map, filter, find, unwrap_or, ◌==◌, nat_le, nat_lt}
+use Rattle.std.specs.List.{list_any}
 use Rattle.market.specs.Meaning.{Meaning}
 use Rattle.rules.specs.declared.offers.Offer.{Offer}
 use Rattle.rules.specs.declared.offers.Side.{Side}
@@ -68,13 +69,11 @@ no_offer = record { number = 0; house = 0; side = Buy; paper = 0; lots = 0; quot
 
 -- the offer of a number
 abbrev pub offer_of : (number : ℕ) → List Offer → Offer
-offer_of number [] = no_offer
-offer_of number (o ∷ os) = cond (o.number == number) o (offer_of number os)
+offer_of number offers = unwrap_or (find (λ o. o.number == number) offers) no_offer
 
 -- an offer of that number stands
 abbrev pub stands : (number : ℕ) → List Offer → Bool
-stands number [] = false
-stands number (o ∷ os) = o.number == number || stands number os
+stands number offers = list_any (λ o. o.number == number) offers
 
 -- the other offers
 abbrev pub without : (number : ℕ) → List Offer → List Offer
@@ -82,8 +81,8 @@ without number = filter (λ o. not (o.number == number))
 
 -- the offer with so many lots less
 abbrev pub fewer : (lots : ℕ) → Offer → Offer
-fewer lots o = record { number = o.number; house = o.house; side = o.side; paper = o.paper; lots = o.lots - lots; quote = o.quote; lapse = o.lapse }
+fewer lots o = record o { lots = o.lots - lots }
 
 -- so many lots of the offer of that number are gone; an offer without lots leaves the board
 abbrev pub reduced : (number lots : ℕ) → List Offer → List Offer
-reduced number lots offers = filter (λ o. ltb 0 o.lots) (map (λ o. cond (o.number == number) (fewer lots o) o) offers)
+reduced number lots offers = filter (λ o. nat_lt 0 o.lots) (map (λ o. cond (o.number == number) (fewer lots o) o) offers)

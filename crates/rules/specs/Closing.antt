@@ -1,19 +1,24 @@
 -- How a pair closes.
 use Rattle.std.specs.Prelude.{ℕ, Bool, false, not, [], ◌∷◌, ◌++◌, is_some, Option}
 use Rattle.lines.specs.Rules.{fault}
+use Rattle.lines.specs.declared.table.Deal.{Deal}
 use Rattle.lines.specs.declared.table.Fault.{Fault}
 use Rattle.rules.specs.declared.closes.Close.{Close}
 use Rattle.rules.specs.declared.closes.Stage.TheVariants.{Live}
-use Rattle.rules.specs.State.{Session, State, credit, with_closes, with_offers}
+use Rattle.rules.specs.State.{Session, State, credit}
 use Rattle.rules.specs.Board.{Pair, lesser, reduced}
 
 -- what the pair's lesser lots are worth at a price
 abbrev pub worth : Session → State → Pair → (price : ℕ) → ℕ
 worth n s p price = n.market.value (lesser p) price (s.days p.buy.paper)
 
--- why the pair may not trade its lesser lots at a price, if it may not
+-- the pair's lesser lots at a price, as the lines see them
+abbrev pub deal_at : Session → State → Pair → (price : ℕ) → Deal
+deal_at n s p price = record { pledges = n.market.pledges; buyer = p.buy.house; seller = p.sell.house; value = worth n s p price }
+
+-- why the pair may not trade so, if it may not
 abbrev pub pair_fault : Session → State → Pair → (price : ℕ) → Option Fault
-pair_fault n s p price = fault (credit n s) n.market.pledges p.buy.house p.sell.house (worth n s p price)
+pair_fault n s p price = fault (credit n s) (deal_at n s p price)
 
 -- it may
 abbrev pub may_trade : Session → State → Pair → (price : ℕ) → Bool
@@ -38,5 +43,7 @@ close_at n s p price = record {
 -- the close is recorded, and its lots are taken from both offers
 abbrev pub struck : Session → State → Pair → (price : ℕ) → State
 struck n s p price =
-    with_closes (s.closes ++ (close_at n s p price ∷ []))
-    (with_offers (reduced p.buy.number (lesser p) (reduced p.sell.number (lesser p) s.offers)) s)
+    record s {
+      offers = reduced p.buy.number (lesser p) (reduced p.sell.number (lesser p) s.offers);
+      closes = s.closes ++ (close_at n s p price ∷ []);
+    }

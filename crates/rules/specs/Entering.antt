@@ -1,17 +1,15 @@
 -- Entering an offer.
-use Rattle.std.specs.Prelude.{ℕ, ◌+◌, ◌*◌, Bool, cond, not, ◌&&◌, ◌||◌, List, [], ◌∷◌, ◌++◌, length, Some, None, fold, Option, ◌==◌, nat_le, nat_lt}
+use Rattle.std.specs.Prelude.{ℕ, ◌+◌, ◌*◌, Bool, cond, not, ◌&&◌, ◌||◌, List, [], ◌∷◌, ◌++◌, length, Some, None, fold, find, Option, ◌==◌, nat_le, nat_lt}
 use Rattle.market.specs.Meaning.{between}
 use Rattle.book.specs.declared.posting.Posting.{Posting}
 use Rattle.rules.specs.declared.calls.Entry.{Entry}
 use Rattle.rules.specs.declared.offers.Exposure.{Exposure}
 use Rattle.rules.specs.declared.offers.Offer.{Offer}
-use Rattle.rules.specs.declared.offers.Paper.{Paper}
-use Rattle.rules.specs.declared.offers.Paper.TheVariants.{Quiet, Exposed}
 use Rattle.rules.specs.declared.offers.Side.{Side}
 use Rattle.rules.specs.declared.offers.Side.TheVariants.{Buy, Sell}
 use Rattle.rules.specs.declared.refusal.Refusal.{Refusal}
 use Rattle.rules.specs.declared.refusal.Refusal.TheVariants.{NoHouse, NoPaper, BadLots, BadQuote, BadLapse, OutOfHours, NotBetter, BoardFull, TapeFull, NoRoom, NoNumber}
-use Rattle.rules.specs.State.{Session, State, seconds, put, with_offers, with_papers, numbered, live_closes, posting}
+use Rattle.rules.specs.State.{Session, State, seconds, showing, live_closes, posting}
 use Rattle.rules.specs.Board.{paired, met, better, offer_of, fewer, lesser}
 use Rattle.rules.specs.Refusals.{refuse, carried}
 use Rattle.rules.specs.Closing.{pair_fault, may_trade, close_at, struck}
@@ -35,14 +33,14 @@ other Buy = Sell
 other Sell = Buy
 
 -- in an exposed paper: it must rank strictly better than its side's exposed offer
-abbrev pub not_better : Session → State → Offer → Paper → Option Refusal
-not_better n s o Quiet = None
-not_better n s o (Exposed x) = refuse (not (better o.side (n.market.rank o.quote) (n.market.rank (exposed o.side x s).quote))) NotBetter
+abbrev pub not_better : Session → State → Offer → Option Exposure → Option Refusal
+not_better n s o None = None
+not_better n s o (Some x) = refuse (not (better o.side (n.market.rank o.quote) (n.market.rank (exposed o.side x s).quote))) NotBetter
 
 -- and be able to trade with the other exposed offer, at its own quote
-abbrev pub unable : Session → State → Offer → Paper → Option Refusal
-unable n s o Quiet = None
-unable n s o (Exposed x) = carried (pair_fault n s (paired o (exposed (other o.side) x s)) o.quote)
+abbrev pub unable : Session → State → Offer → Option Exposure → Option Refusal
+unable n s o None = None
+unable n s o (Some x) = carried (pair_fault n s (paired o (exposed (other o.side) x s)) o.quote)
 
 -- why an entry is refused, tried from the top
 abbrev pub enter_rules : Session → (places : ℕ) → State → Entry → List (Option Refusal)
@@ -91,33 +89,32 @@ through n s o = fold (meet n) (record { state = s; offer = o; postings = [] }) (
 
 -- an offer joins the standing ones; one without lots does not
 abbrev pub stand : Offer → State → State
-stand o s = with_offers (s.offers ++ cond (nat_lt 0 o.lots) (o ∷ []) []) (numbered s)
+stand o s = record s { offers = s.offers ++ cond (nat_lt 0 o.lots) (o ∷ []) []; accepted = s.accepted + 1 }
 
 -- the first of the offers met that it may trade with
 abbrev pub first_able : Session → State → Offer → List Offer → Option Offer
-first_able n s o [] = None
-first_able n s o (standing ∷ more) = cond (may_trade n s (paired o standing) standing.quote) (Some standing) (first_able n s o more)
+first_able n s o offers = find (λ standing. may_trade n s (paired o standing) standing.quote) offers
 
 -- an exposure begins with it: the pair, the standing quote for price, and the end
 abbrev pub begun : Session → State → Offer → Option Offer → State
 begun n s o None = s
 begun n s o (Some standing) =
     let p = paired o standing in
-    with_papers (put o.paper (Exposed (record { buy = p.buy.number; sell = p.sell.number; price = standing.quote; end = s.clock + seconds n.settings.exposure })) s.papers) s
+    showing o.paper (Some (record { buy = p.buy.number; sell = p.sell.number; price = standing.quote; end = s.clock + seconds n.settings.exposure })) s
 
 -- it takes its side's place in the exposed pair, and its quote becomes the price; the end stays
 abbrev pub replaced : Side → Offer → Exposure → Exposure
-replaced Buy o x = record { buy = o.number; sell = x.sell; price = o.quote; end = x.end }
-replaced Sell o x = record { buy = x.buy; sell = o.number; price = o.quote; end = x.end }
+replaced Buy o x = record x { buy = o.number; price = o.quote }
+replaced Sell o x = record x { sell = o.number; price = o.quote }
 
 -- what the paper shows after the entry
-abbrev pub shown : Session → State → Offer → Paper → State
-shown n s o Quiet = begun n s o (first_able n s o (met n.market o s.offers))
-shown n s o (Exposed x) = with_papers (put o.paper (Exposed (replaced o.side o x)) s.papers) s
+abbrev pub shown : Session → State → Offer → Option Exposure → State
+shown n s o None = begun n s o (first_able n s o (met n.market o s.offers))
+shown n s o (Some x) = showing o.paper (Some (replaced o.side o x)) s
 
 -- an accepted entry: with no exposure it closes at once what it can; else it stands, and what is shown may change
 abbrev pub entered : Session → State → Entry → Way
 entered n s e =
     cond (seconds n.settings.exposure == 0)
-    (let w = through n s (offered s e) in record { state = stand w.offer w.state; offer = w.offer; postings = w.postings })
+    (let w = through n s (offered s e) in record w { state = stand w.offer w.state })
     (record { state = stand (offered s e) (shown n s (offered s e) (s.papers e.paper)); offer = offered s e; postings = [] })

@@ -1,6 +1,6 @@
 -- The closing file.
 use Rattle.std.specs.Prelude.{ℕ, zero, suc, ◌+◌, ◌/◌, ◌%◌, cond, List, [], ◌∷◌, ◌++◌, length, drop, Ok, Err, Result, nat_lt}
-use Rattle.std.specs.List.{flat_map}
+use Rattle.std.specs.List.{flat_map, enumerate_from}
 use Rattle.rules.specs.declared.closes.Close.{Close}
 use Rattle.rules.specs.declared.closes.Stage.{Stage}
 use Rattle.rules.specs.declared.closes.Stage.TheVariants.{Live, UnderVote, Annulled, Settled}
@@ -27,14 +27,9 @@ stage_number Settled = 3
 abbrev pub entry : (n : ℕ) → Close → List ℕ
 entry n c = flat_map number (n ∷ c.buyer ∷ c.seller ∷ c.paper ∷ c.lots ∷ c.price ∷ c.value ∷ stage_number c.stage ∷ [])
 
--- closes, numbered on
-abbrev pub entries : (from : ℕ) → List Close → List ℕ
-entries from [] = []
-entries from (c ∷ cs) = entry from c ++ entries (from + 1) cs
-
--- the count of closes, then each close
+-- the count of closes, then each close, numbered from 1
 abbrev pub file : List Close → List ℕ
-file closes = number (length closes) ++ entries 1 closes
+file closes = number (length closes) ++ flat_map (λ e. entry e.0 e.1) (enumerate_from 1 closes)
 
 -- the answer, and the page afterwards: bytes past the file stay, and a page that is too short is left alone
 abbrev pub filed : List Close → (page : List ℕ) → Result ℕ Refusal × List ℕ

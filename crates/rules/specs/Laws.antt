@@ -1,11 +1,10 @@
 -- The laws of the rules, in the subject's words.
-use Rattle.std.specs.Prelude.{◌≡◌, ℕ, ◌<◌, ◌≤◌, ◌⊎◌, List, [], ◌∷◌, length, drop, Err, ◌≢◌}
+use Rattle.std.specs.Prelude.{◌≡◌, ℕ, ◌<◌, ◌≤◌, ◌⊎◌, List, [], length, drop, All, Contains, AllPairs, Some, Err, ◌≢◌}
 use Rattle.market.specs.Meaning.{Meaning, Dearer}
 use Rattle.rules.specs.declared.calls.Call.{Call}
 use Rattle.rules.specs.declared.closes.Close.{Close}
 use Rattle.rules.specs.declared.offers.Exposure.{Exposure}
 use Rattle.rules.specs.declared.offers.Offer.{Offer}
-use Rattle.rules.specs.declared.offers.Paper.TheVariants.{Exposed}
 use Rattle.rules.specs.declared.offers.Side.{Side}
 use Rattle.rules.specs.declared.offers.Side.TheVariants.{Buy, Sell}
 use Rattle.rules.specs.declared.refusal.Refusal.{Refusal}
@@ -15,18 +14,9 @@ use Rattle.rules.specs.Ticking.{exposed_pair}
 use Rattle.rules.specs.Steps.{step}
 use Rattle.rules.specs.Runs.{Made, run}
 
-abbrev pub In : {X : Type 0} → X → List X → Type 0
-In x [] = ⊥
-In x (y ∷ ys) = (x ≡ y) ⊎ In x ys
-
--- each element stands so to every later one
-abbrev pub Ordered : {X : Type 0} → (X → X → Type 0) → List X → Type 0
-Ordered R [] = Unit {0}
-Ordered {X} R (x ∷ xs) = ((y : X) → In y xs → R x y) × Ordered R xs
-
 -- no two offers have one number
 abbrev pub NumbersDiffer : List Offer → Type 0
-NumbersDiffer offers = Ordered (λ o p. o.number ≢ p.number) offers
+NumbersDiffer offers = AllPairs (λ o p. o.number ≢ p.number) offers
 
 -- an entering buy crosses the sells of its paper whose rank is at most its own, and an entering sell the buys whose rank is at least its own
 abbrev pub Crosses : Meaning → Side → (entering standing : Offer) → Type 0
@@ -40,10 +30,10 @@ MetBefore m Sell o p = (m.rank p.quote < m.rank o.quote) ⊎ ((m.rank o.quote �
 
 -- these are the standing offers that cross the entering one, all of them, each once, and in order
 pub record Meets (m : Meaning) (entering : Offer) (offers through : List Offer) : Type 0 where
-  pub crossing : (o : Offer) → In o through → In o offers × Crosses m entering.side entering o
-  pub all : (o : Offer) → In o offers → Crosses m entering.side entering o → In o through
+  pub crossing : (o : Offer) → Contains through o → Contains offers o × Crosses m entering.side entering o
+  pub all : (o : Offer) → Contains offers o → Crosses m entering.side entering o → Contains through o
   pub once : NumbersDiffer through
-  pub in_order : Ordered (MetBefore m entering.side) through
+  pub in_order : AllPairs (MetBefore m entering.side) through
 
 -- WHO IS MET: an entry goes through exactly the standing offers that cross it, and no other list does
 abbrev pub WhoIsMet : Type 0
@@ -53,7 +43,7 @@ WhoIsMet = (m : Meaning) (entering : Offer) (offers : List Offer) → NumbersDif
 -- MEMORY DOES NOT MATTER: where two lists hold the same standing offers, an entry goes through the same offers in the same order
 abbrev pub MemoryDoesNotMatter : Type 0
 MemoryDoesNotMatter = (m : Meaning) (entering : Offer) (offers others : List Offer) → NumbersDiffer offers → NumbersDiffer others
-    → ((o : Offer) → In o offers → In o others) → ((o : Offer) → In o others → In o offers) → met m entering offers ≡ met m entering others
+    → ((o : Offer) → Contains offers o → Contains others o) → ((o : Offer) → Contains others o → Contains offers o) → met m entering offers ≡ met m entering others
 
 -- A REFUSED CALL CHANGES NOTHING
 abbrev pub RefusedChangesNothing : Type 0
@@ -74,22 +64,23 @@ pub record ShownWell (m : Meaning) (paper price : ℕ) (p : Pair) : Type 0 where
   pub crossing : Crossing m p.sell.quote price p.buy.quote
 
 abbrev pub ExposuresCross : Session → State → Type 0
-ExposuresCross n s = (paper : ℕ) (x : Exposure) → s.papers paper ≡ Exposed x → ShownWell n.market paper x.price (exposed_pair s x)
+ExposuresCross n s = (paper : ℕ) (x : Exposure) → s.papers paper ≡ Some x → ShownWell n.market paper x.price (exposed_pair s x)
 
 -- the value lies between those at the two own quotes, for the same lots and days
 pub record ValueBetween (m : Meaning) (days : ℕ) (c : Close) : Type 0 where
   pub above : m.value c.lots c.ask days ≤ c.value
   pub below : c.value ≤ m.value c.lots c.bid days
 
--- CLOSES ARE FAIR: the price of a close that a step strikes ranks between its seller's quote and its buyer's, and by the market's law so does its value
+-- the price of a close ranks between its seller's quote and its buyer's, and by the market's law so does its value
+abbrev pub IsFair : Meaning → (days : (paper : ℕ) → ℕ) → Close → Type 0
+IsFair m days c = Crossing m c.ask c.price c.bid × (Dearer m → ValueBetween m (days c.paper) c)
+
+-- CLOSES ARE FAIR: each close that a step strikes
 abbrev pub ClosesAreFair : Type 0
 ClosesAreFair = (n : Session) (places : ℕ) (s : State) (call : Call) → ExposuresCross n s
-    → (c : Close) → In c (drop (length s.closes) (step n places s call).state.closes)
-    → Crossing n.market c.ask c.price c.bid × (Dearer n.market → ValueBetween n.market (s.days c.paper) c)
+    → All (IsFair n.market s.days) (drop (length s.closes) (step n places s call).state.closes)
 
 -- OVER WHOLE RUNS: whatever is called from a new session, exposed pairs cross at their price, so that every close of every run is fair
 abbrev pub RunsAreFair : Type 0
 RunsAreFair = (n : Session) (calls : List Made)
-    → ExposuresCross n (run n calls).state
-    × ((c : Close) → In c (run n calls).state.closes
-    → Crossing n.market c.ask c.price c.bid × (Dearer n.market → ValueBetween n.market ((run n calls).state.days c.paper) c))
+    → ExposuresCross n (run n calls).state × All (IsFair n.market (run n calls).state.days) (run n calls).state.closes

@@ -1,5 +1,6 @@
 -- Why a call is refused: the number of each refusal, and its particulars.
-use Rattle.std.specs.Prelude.{ℕ, Bool, cond, List, [], ◌∷◌, Some, None, Option}
+use Rattle.std.specs.Prelude.{ℕ, Bool, List, [], ◌∷◌, Some, None, Option, option_map}
+use Rattle.std.specs.Bool.{then_some}
 use Rattle.lines.specs.Rules.{fault_case, fault_figures}
 use Rattle.lines.specs.declared.table.Fault.{Fault}
 use Rattle.lines.specs.declared.table.Refusal as lines
@@ -53,12 +54,11 @@ from_book posting.NoPlace = NoPlace
 
 -- a rule that refuses where its test holds
 abbrev pub refuse : Bool → Refusal → Option Refusal
-refuse test refusal = cond test (Some refusal) None
+refuse test refusal = then_some test refusal
 
 -- a rule that hands on the line's fault
 abbrev pub carried : Option Fault → Option Refusal
-carried None = None
-carried (Some fault) = Some (MayNotTrade fault)
+carried fault = option_map MayNotTrade fault
 
 -- the first rule of a list that refuses
 abbrev pub first : List (Option Refusal) → Option Refusal

@@ -1,5 +1,5 @@
 -- A session's state, and what is defined from its closes.
-use Rattle.std.specs.Prelude.{ℕ, ◌+◌, ◌-◌, Bool, true, false, cond, not, ◌&&◌, List, [], ◌∷◌, length, ℤ, pos, ◌+ℤ◌, sum_by, count_by, ◌==◌, nat_le, slice_index_or, slice_set}
+use Rattle.std.specs.Prelude.{ℕ, ◌-◌, Bool, true, false, cond, not, ◌&&◌, List, [], ◌∷◌, length, ℤ, pos, ◌+ℤ◌, sum_by, count_by, None, Option, ◌==◌, nat_le, slice_index_or, slice_set}
 use Rattle.market.specs.Meaning.{Meaning}
 use Rattle.book.specs.Sheet.{when, lots_added, cash_added}
 use Rattle.book.specs.declared.posting.Posting.{Posting}
@@ -11,9 +11,8 @@ use Rattle.rules.specs.declared.calls.Settings.{Settings}
 use Rattle.rules.specs.declared.closes.Close.{Close}
 use Rattle.rules.specs.declared.closes.Stage.{Stage}
 use Rattle.rules.specs.declared.closes.Stage.TheVariants.{Live, UnderVote, Annulled, Settled}
+use Rattle.rules.specs.declared.offers.Exposure.{Exposure}
 use Rattle.rules.specs.declared.offers.Offer.{Offer}
-use Rattle.rules.specs.declared.offers.Paper.{Paper}
-use Rattle.rules.specs.declared.offers.Paper.TheVariants.{Quiet}
 
 -- what a session was put together from, besides its book
 pub record Session : Type 0 where
@@ -33,7 +32,8 @@ pub record State : Type 0 where
   pub limit : (granter counterparty : ℕ) → ℕ
   -- the standing offers, in the order of their numbers
   pub offers : List Offer
-  pub papers : (paper : ℕ) → Paper
+  -- the pair that each paper shows; none: the paper is quiet
+  pub papers : (paper : ℕ) → Option Exposure
   -- the recorded closes, in the order of their numbers, from 1
   pub closes : List Close
   -- how many offers were accepted
@@ -41,37 +41,15 @@ pub record State : Type 0 where
 
 -- a new session: clock 0, no days, no limits, no blocks, nothing offered and nothing closed
 abbrev pub new : State
-new = record { clock = 0; days = λ _. 0; blocked = λ _ _. false; limit = λ _ _. 0; offers = []; papers = λ _. Quiet; closes = []; accepted = 0 }
+new = record { clock = 0; days = λ _. 0; blocked = λ _ _. false; limit = λ _ _. 0; offers = []; papers = λ _. None; closes = []; accepted = 0 }
 
 -- f, but x at k
 abbrev pub put : {X : Type 0} → (k : ℕ) → X → (ℕ → X) → ℕ → X
 put k x f j = cond (j == k) x (f j)
 
--- the state with one part changed
-abbrev pub with_clock : ℕ → State → State
-with_clock x s = record { clock = x; days = s.days; blocked = s.blocked; limit = s.limit; offers = s.offers; papers = s.papers; closes = s.closes; accepted = s.accepted }
-
-abbrev pub with_days : (ℕ → ℕ) → State → State
-with_days x s = record { clock = s.clock; days = x; blocked = s.blocked; limit = s.limit; offers = s.offers; papers = s.papers; closes = s.closes; accepted = s.accepted }
-
-abbrev pub with_blocked : (ℕ → ℕ → Bool) → State → State
-with_blocked x s = record { clock = s.clock; days = s.days; blocked = x; limit = s.limit; offers = s.offers; papers = s.papers; closes = s.closes; accepted = s.accepted }
-
-abbrev pub with_limit : (ℕ → ℕ → ℕ) → State → State
-with_limit x s = record { clock = s.clock; days = s.days; blocked = s.blocked; limit = x; offers = s.offers; papers = s.papers; closes = s.closes; accepted = s.accepted }
-
-abbrev pub with_offers : List Offer → State → State
-with_offers x s = record { clock = s.clock; days = s.days; blocked = s.blocked; limit = s.limit; offers = x; papers = s.papers; closes = s.closes; accepted = s.accepted }
-
-abbrev pub with_papers : (ℕ → Paper) → State → State
-with_papers x s = record { clock = s.clock; days = s.days; blocked = s.blocked; limit = s.limit; offers = s.offers; papers = x; closes = s.closes; accepted = s.accepted }
-
-abbrev pub with_closes : List Close → State → State
-with_closes x s = record { clock = s.clock; days = s.days; blocked = s.blocked; limit = s.limit; offers = s.offers; papers = s.papers; closes = x; accepted = s.accepted }
-
--- one offer more was accepted
-abbrev pub numbered : State → State
-numbered s = record { clock = s.clock; days = s.days; blocked = s.blocked; limit = s.limit; offers = s.offers; papers = s.papers; closes = s.closes; accepted = s.accepted + 1 }
+-- the state in which a paper shows a pair, or nothing
+abbrev pub showing : (paper : ℕ) → Option Exposure → State → State
+showing paper x s = record s { papers = put paper x s.papers }
 
 -- whether the buyer's line, and the seller's, are still held at this stage where they were pledged
 abbrev pub held : Stage → Bool × Bool
@@ -131,10 +109,6 @@ recorded s close = nat_le 1 close && nat_le close (length s.closes)
 abbrev pub close_of : State → (close : ℕ) → Close
 close_of s close = slice_index_or s.closes (close - 1) no_close
 
--- the close at a stage
-abbrev pub at_stage : Stage → Close → Close
-at_stage stage c = record { buyer = c.buyer; seller = c.seller; buy = c.buy; sell = c.sell; paper = c.paper; lots = c.lots; price = c.price; bid = c.bid; ask = c.ask; value = c.value; stage = stage }
-
 -- the close of that number comes to a stage
 abbrev pub staged : (close : ℕ) → Stage → State → State
-staged close stage s = with_closes (slice_set s.closes (close - 1) (at_stage stage (close_of s close))) s
+staged close stage s = record s { closes = slice_set s.closes (close - 1) (record (close_of s close) { stage = stage }) }

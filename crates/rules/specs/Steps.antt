@@ -1,5 +1,5 @@
 -- A step: from the state and a call to the answer, the next state and the postings made.
-use Rattle.std.specs.Prelude.{ℕ, ◌+◌, ◌-◌, ◌^◌, cond, not, ◌||◌, List, [], ◌∷◌, length, Some, None, Ok, Err, Option, Result, ◌==◌, nat_lt}
+use Rattle.std.specs.Prelude.{ℕ, ◌+◌, ◌-◌, ◌^◌, cond, not, ◌||◌, List, [], ◌∷◌, length, is_some, Some, None, Ok, Err, Option, Result, ◌==◌, nat_lt}
 use Rattle.book.specs.Sheet.{exchanged}
 use Rattle.book.specs.declared.posting.Posting.{Posting}
 use Rattle.rules.specs.declared.calls.Answer.{Answer}
@@ -11,11 +11,11 @@ use Rattle.rules.specs.declared.calls.Entry.{Entry}
 use Rattle.rules.specs.declared.closes.Stage.TheVariants.{UnderVote, Settled}
 use Rattle.rules.specs.declared.refusal.Refusal.{Refusal}
 use Rattle.rules.specs.declared.refusal.Refusal.TheVariants.{NoHouse, OneHouse, NoPaper, LimitOrDays, TermFixed, NoOffer, PaperExposed}
-use Rattle.rules.specs.State.{Session, State, put, with_days, with_limit, with_blocked, with_offers, credit, posting, close_of, staged}
+use Rattle.rules.specs.State.{Session, State, put, credit, posting, close_of, staged}
 use Rattle.rules.specs.Board.{offer_of, stands, without}
 use Rattle.rules.specs.Refusals.{refuse, first}
 use Rattle.rules.specs.Entering.{enter_rules, entered}
-use Rattle.rules.specs.Ticking.{tick_rules, ticked, quiet, lapsed, after_lapses}
+use Rattle.rules.specs.Ticking.{tick_rules, ticked, lapsed, after_lapses}
 use Rattle.rules.specs.Voting.{complain_rules, heard_by, vote_rules, with_vote, hearing_of, votes, decide_rules, annulled, decided, release_rules, released, settle_rules}
 
 -- what an accepted call answers, the state that it leads to, and the postings that it makes
@@ -54,7 +54,7 @@ withdraw_rules s house offer =
     let o = offer_of offer s.offers in
     refuse (nat_lt 15 house) NoHouse
     ∷ refuse (not (stands offer s.offers) || not (o.house == house)) NoOffer
-    ∷ refuse (not (quiet (s.papers o.paper))) PaperExposed
+    ∷ refuse (is_some (s.papers o.paper)) PaperExposed
     ∷ []
 
 -- the rules that a call may break, in order; `places` is how many the book has
@@ -100,16 +100,16 @@ decide s c =
 -- what a call does that no rule refuses
 abbrev pub effect : Session → State → Call → Effect
 -- sets a paper's days
-effect n s (Term paper days) = record { answer = Done; state = with_days (put paper days s.days) s; postings = [] }
+effect n s (Term paper days) = record { answer = Done; state = record s { days = put paper days s.days }; postings = [] }
 -- sets a line's limit
 effect n s (Limit granter counterparty pesos) =
-    record { answer = Done; state = with_limit (put granter (put counterparty pesos (s.limit granter)) s.limit) s; postings = [] }
+    record { answer = Done; state = record s { limit = put granter (put counterparty pesos (s.limit granter)) s.limit }; postings = [] }
 -- sets or lifts a house's block on another
-effect n s (Block house other on) = record { answer = Done; state = with_blocked (put house (put other on (s.blocked house)) s.blocked) s; postings = [] }
+effect n s (Block house other on) = record { answer = Done; state = record s { blocked = put house (put other on (s.blocked house)) s.blocked }; postings = [] }
 effect n s (Enter e) = enter n s e
 -- takes the offer off, and answers its lots
 effect n s (Withdraw house offer) =
-    record { answer = Withdrawn (offer_of offer s.offers).lots; state = with_offers (without offer s.offers) s; postings = [] }
+    record { answer = Withdrawn (offer_of offer s.offers).lots; state = record s { offers = without offer s.offers }; postings = [] }
 effect n s (Tick clock) = tick n s clock
 -- puts the close before the jury, and gives out the case
 effect n s (Complain house close jury) =

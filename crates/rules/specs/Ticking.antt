@@ -1,13 +1,11 @@
 -- The clock.
-use Rattle.std.specs.Prelude.{ℕ, ◌+◌, Bool, true, false, cond, not, ◌&&◌, ◌||◌, List, [], ◌∷◌, ◌++◌, fold, filter, Option, nat_le, nat_lt}
+use Rattle.std.specs.Prelude.{ℕ, ◌+◌, Bool, cond, not, ◌&&◌, ◌||◌, List, [], ◌∷◌, ◌++◌, fold, filter, is_none, Some, None, Option, nat_le, nat_lt}
 use Rattle.book.specs.declared.posting.Posting.{Posting}
 use Rattle.rules.specs.declared.offers.Exposure.{Exposure}
 use Rattle.rules.specs.declared.offers.Offer.{Offer}
-use Rattle.rules.specs.declared.offers.Paper.{Paper}
-use Rattle.rules.specs.declared.offers.Paper.TheVariants.{Quiet, Exposed}
 use Rattle.rules.specs.declared.refusal.Refusal.{Refusal}
 use Rattle.rules.specs.declared.refusal.Refusal.TheVariants.{BadClock}
-use Rattle.rules.specs.State.{Session, State, put, with_clock, with_offers, with_papers, posting}
+use Rattle.rules.specs.State.{Session, State, showing, posting}
 use Rattle.rules.specs.declared.offers.Side.TheVariants.{Buy, Sell}
 use Rattle.rules.specs.Board.{Pair}
 use Rattle.rules.specs.Refusals.{refuse}
@@ -31,50 +29,40 @@ exposed_pair s x = record { buy = exposed Buy x s; sell = exposed Sell x s }
 
 -- a paper shows nothing more
 abbrev pub quieted : (paper : ℕ) → State → State
-quieted paper s = with_papers (put paper Quiet s.papers) s
+quieted paper s = showing paper None s
 
 -- the exposed pair closes for the lesser lots at its price, and the paper is quiet
 abbrev pub closed_out : Session → Tick → (paper : ℕ) → Exposure → Tick
 closed_out n t paper x =
     let p = exposed_pair t.state x in
-    record {
+    record t {
       state = quieted paper (struck n t.state p x.price);
       closes = t.closes + 1;
-      voids = t.voids;
       postings = t.postings ++ (posting (close_at n t.state p x.price) ∷ []);
     }
 
 -- or it is void, and the paper is quiet
 abbrev pub voided : Tick → (paper : ℕ) → Tick
-voided t paper = record { state = quieted paper t.state; closes = t.closes; voids = t.voids + 1; postings = t.postings }
+voided t paper = record t { state = quieted paper t.state; voids = t.voids + 1 }
 
 -- as the pair may trade or not
 abbrev pub ended : Session → Tick → (paper : ℕ) → Exposure → Tick
 ended n t paper x = cond (may_trade n t.state (exposed_pair t.state x) x.price) (closed_out n t paper x) (voided t paper)
 
 -- an exposure ends when the clock has come to its end
-abbrev pub due : Session → Tick → (paper : ℕ) → Paper → Tick
-due n t paper Quiet = t
-due n t paper (Exposed x) = cond (nat_le x.end t.state.clock) (ended n t paper x) t
+abbrev pub due : Session → Tick → (paper : ℕ) → Option Exposure → Tick
+due n t paper None = t
+due n t paper (Some x) = cond (nat_le x.end t.state.clock) (ended n t paper x) t
 
--- the exposures that are due end, in the order of the papers
-abbrev pub all_due : Session → State → Tick
-all_due n s =
-    fold (λ t paper. due n t paper (t.state.papers paper)) (record { state = s; closes = 0; voids = 0; postings = [] })
+-- the clock is set, and the exposures that are due end, in the order of the papers
+abbrev pub ticked : Session → State → (clock : ℕ) → Tick
+ticked n s clock =
+    fold (λ t paper. due n t paper (t.state.papers paper)) (record { state = record s { clock = clock }; closes = 0; voids = 0; postings = [] })
     (0 ∷ 1 ∷ 2 ∷ 3 ∷ 4 ∷ 5 ∷ 6 ∷ 7 ∷ [])
-
--- a paper shows nothing
-abbrev pub quiet : Paper → Bool
-quiet Quiet = true
-quiet (Exposed x) = false
 
 -- an offer lapses when the clock has come to its lapse, if it has one, and its paper is quiet
 abbrev pub lapses : State → Offer → Bool
-lapses s o = nat_lt 0 o.lapse && (nat_le o.lapse s.clock && quiet (s.papers o.paper))
-
--- the clock is set, and the exposures that are due end
-abbrev pub ticked : Session → State → (clock : ℕ) → Tick
-ticked n s clock = all_due n (with_clock clock s)
+lapses s o = nat_lt 0 o.lapse && (nat_le o.lapse s.clock && is_none (s.papers o.paper))
 
 -- then offers lapse: these
 abbrev pub lapsed : State → List Offer
@@ -82,4 +70,4 @@ lapsed s = filter (lapses s) s.offers
 
 -- and the others stay
 abbrev pub after_lapses : State → State
-after_lapses s = with_offers (filter (λ o. not (lapses s o)) s.offers) s
+after_lapses s = record s { offers = filter (λ o. not (lapses s o)) s.offers }

@@ -1,5 +1,6 @@
 -- Complaints, votes and decisions; release and settlement.
-use Rattle.std.specs.Prelude.{ℕ, ◌+◌, ◌/◌, ◌%◌, ◌^◌, Bool, true, false, cond, not, ◌&&◌, ◌||◌, List, [], ◌∷◌, count_by, Option, ◌==◌, nat_le, nat_lt}
+use Rattle.std.specs.Prelude.{ℕ, ◌+◌, ◌/◌, ◌%◌, ◌^◌, Bool, true, false, cond, not, ◌&&◌, ◌||◌, List, [], ◌∷◌, count_by, is_none, Some, None, Option, unwrap_or, ◌==◌, nat_le, nat_lt}
+use Rattle.std.specs.List.{list_any}
 use Rattle.rules.specs.declared.calls.CaseName.{CaseName}
 use Rattle.rules.specs.declared.closes.Close.{Close}
 use Rattle.rules.specs.declared.closes.Hearing.{Hearing}
@@ -13,13 +14,7 @@ use Rattle.rules.specs.Entering.{out_of_hours}
 
 -- a house is among these
 abbrev pub has : List ℕ → (house : ℕ) → Bool
-has [] house = false
-has (h ∷ hs) house = h == house || has hs house
-
--- one of these is above
-abbrev pub some_above : (most : ℕ) → List ℕ → Bool
-some_above most [] = false
-some_above most (h ∷ hs) = nat_lt most h || some_above most hs
+has houses house = list_any (λ h. h == house) houses
 
 -- two of these are alike
 abbrev pub some_alike : List ℕ → Bool
@@ -40,7 +35,7 @@ unheard Settled = false
 -- why a complaint is refused
 abbrev pub complain_rules : State → (house close : ℕ) (jury : List ℕ) → List (Option Refusal)
 complain_rules s house close jury =
-    refuse (nat_lt 15 house || some_above 15 jury) NoHouse
+    refuse (nat_lt 15 house || list_any (nat_lt 15) jury) NoHouse
     ∷ refuse (out_of_hours s) OutOfHours
     ∷ refuse (not (recorded s close)) NoClose
     ∷ refuse (some_alike jury || (has jury (close_of s close).buyer || has jury (close_of s close).seller)) BadJury
@@ -60,27 +55,20 @@ voted mask house = mask / 2 ^ house % 2 == 1
 abbrev pub no_hearing : Hearing
 no_hearing = record { jury = []; yes = 0; no = 0; end = 0 }
 
--- the hearing of a close that is under vote
-abbrev pub hearing_at : Stage → Hearing
-hearing_at (Live heard) = no_hearing
-hearing_at (UnderVote hearing) = hearing
-hearing_at (Annulled buyer seller) = no_hearing
-hearing_at Settled = no_hearing
-
--- the close is under vote
-abbrev pub under_vote : Stage → Bool
-under_vote (Live heard) = false
-under_vote (UnderVote hearing) = true
-under_vote (Annulled buyer seller) = false
-under_vote Settled = false
+-- the hearing of a close, if it is under vote
+abbrev pub hearing_at : Stage → Option Hearing
+hearing_at (Live heard) = None
+hearing_at (UnderVote hearing) = Some hearing
+hearing_at (Annulled buyer seller) = None
+hearing_at Settled = None
 
 -- a case of another session, or of a close that is not under vote
 abbrev pub no_case : Session → State → CaseName → Bool
-no_case n s c = not (c.session == n.settings.number) || (not (recorded s c.close) || not (under_vote (close_of s c.close).stage))
+no_case n s c = not (c.session == n.settings.number) || (not (recorded s c.close) || is_none (hearing_at (close_of s c.close).stage))
 
 -- the hearing that a case is about
 abbrev pub hearing_of : State → CaseName → Hearing
-hearing_of s c = hearing_at (close_of s c.close).stage
+hearing_of s c = unwrap_or (hearing_at (close_of s c.close).stage) no_hearing
 
 -- why a vote is refused
 abbrev pub vote_rules : Session → State → CaseName → (juror : ℕ) → List (Option Refusal)
@@ -93,7 +81,7 @@ vote_rules n s c juror =
 
 -- the juror's vote is marked
 abbrev pub with_vote : Hearing → (juror : ℕ) (aye : Bool) → Hearing
-with_vote h juror aye = record { jury = h.jury; yes = h.yes + cond aye (2 ^ juror) 0; no = h.no + cond aye 0 (2 ^ juror); end = h.end }
+with_vote h juror aye = record h { yes = h.yes + cond aye (2 ^ juror) 0; no = h.no + cond aye 0 (2 ^ juror) }
 
 -- the votes of the jury in a mask
 abbrev pub votes : Hearing → (mask : ℕ) → ℕ

@@ -22,7 +22,7 @@ pub struct Entry {
     pub paper: u8,
     pub lots: u32,
     pub quote: u32,
-    // Seconds after midnight; 0: until withdrawn.
+    // Seconds after midnight; 0: until withdrawn. That is how the market writes it, and an Option would have a second way, `Some(0)`, to say it.
     pub lapse: u32,
 }
 

@@ -14,5 +14,5 @@ pub use laws::{
     closes_are_fair, memory_does_not_matter, refused_call_changes_nothing, runs_are_fair,
     who_is_met, worked_cases_hold,
 };
-pub use offers::{Exposure, Offer, Paper, Side};
+pub use offers::{Exposure, Offer, Side};
 pub use refusal::Refusal;

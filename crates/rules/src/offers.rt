@@ -6,7 +6,7 @@ pub enum Side {
     Sell,
 }
 
-// A standing offer: the lots still wanted or offered, and when it lapses (0: when it is withdrawn).
+// A standing offer: the lots still wanted or offered, and when it lapses (0: when it is withdrawn, as in its `Entry`).
 #[derive(Clone, Copy)]
 pub struct Offer {
     pub number: u32,
@@ -25,10 +25,4 @@ pub struct Exposure {
     pub sell: u32,
     pub price: u32,
     pub end: u32,
-}
-
-#[derive(Clone, Copy)]
-pub enum Paper {
-    Quiet,
-    Exposed(Exposure),
 }

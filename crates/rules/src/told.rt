@@ -7,7 +7,7 @@ use super::refusal::Refusal;
 use lines::Fault;
 
 impl Refusal {
-    // The number that a refusal is known by.
+    // The number that a refusal is known by: a match, since `MayNotTrade` holds data and so no variant has a discriminant to cast.
     pub fn number(&self) -> u8
         ensures { result ≡ (told self.now).0 }
     {

@@ -1,5 +1,6 @@
--- What a trade is worth, and what is wrong with the figures of one.
-use Rattle.std.specs.Prelude.{ℕ, cond, not, List, Some, None, Ok, Err, codes, Option, Result, ◌==◌, nat_lt}
+-- What a trade is worth, what is wrong with the figures of one, and how it is printed.
+use Rattle.std.specs.Prelude.{ℕ, cond, not, List, ◌++◌, Some, None, Ok, Err, codes, decimal, Option, Result, ◌==◌, nat_lt}
+use Rattle.std.specs.Str.{bytes_eq}
 use Rattle.market.specs.Meaning.{Meaning, between}
 use Rattle.market.specs.Makes.{price, rate, interbank}
 use Rattle.trades.specs.declared.trade.Kind.{Kind}
@@ -21,6 +22,13 @@ name Price = codes "price"
 name Rate = codes "rate"
 name Interbank = codes "interbank"
 
+-- the market that a word names
+abbrev pub kind : List ℕ → Option Kind
+kind w =
+    cond (bytes_eq w (codes "price")) (Some Price)
+    (cond (bytes_eq w (codes "rate")) (Some Rate)
+    (cond (bytes_eq w (codes "interbank")) (Some Interbank) None))
+
 abbrev pub value : Trade → ℕ
 value t = (market t.kind).value t.lots t.quote t.days
 
@@ -39,6 +47,12 @@ flaw f =
 abbrev pub told : Figures → Trade
 told f = record { kind = f.kind; buyer = f.buyer; seller = f.seller; paper = f.paper; lots = f.lots; quote = f.quote; days = f.days }
 
-abbrev pub checked : Option Flaw → Trade → Result Trade Flaw
-checked None t = Ok t
-checked (Some f) t = Err f
+abbrev pub checked : {X : Type 0} → Option Flaw → X → Result X Flaw
+checked None x = Ok x
+checked (Some f) x = Err f
+
+-- the terms of a trade, as a line has them
+abbrev pub terms : Trade → List ℕ
+terms t =
+    name t.kind ++ (codes " buyer " ++ (decimal t.buyer ++ (codes " seller " ++ (decimal t.seller ++ (codes " paper " ++ (decimal t.paper
+    ++ (codes " lots " ++ (decimal t.lots ++ (codes " quote " ++ (decimal t.quote ++ (codes " days " ++ decimal t.days)))))))))))

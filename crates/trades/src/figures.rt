@@ -1,10 +1,12 @@
 //! The checks on a trade's figures, and its value.
 ghost use Rattle.std.specs.Prelude.{◌≡◌};
-ghost use Rattle.trades.specs.Trades.{market, name, value, flaw, told, checked};
+ghost use Rattle.std.specs.Result.{result_ok};
+ghost use Rattle.trades.specs.Trades.{market, kind, name, value, flaw, told, checked};
 
-use super::trade::{Figures, Flaw, Kind, Trade};
+use super::trade::{Figures, Flaw, Kind, Trade, UnknownMarket};
 use market::{Interbank, Market, Price, Rate};
 
+// `Kind` is matched on once for each member of its market that is asked of it: a `&dyn Market` may not be handed out, and a `Kind` that is itself a `Market` would need five such matches.
 impl Kind {
     // The word by which a line of text names the market.
     pub fn name(self) -> &'static str
@@ -39,45 +41,63 @@ impl Kind {
     }
 }
 
+impl<'a> TryFrom<&'a [u8]> for Kind {
+    type Error = UnknownMarket;
+
+    ghost try_from_gives = { λ word r. result_ok r ≡ kind word.now };
+
+    // The market that a word names.
+    fn try_from(word: &'a [u8]) -> Result<Kind, UnknownMarket> {
+        match word {
+            b"price" => Ok(Kind::Price),
+            b"rate" => Ok(Kind::Rate),
+            b"interbank" => Ok(Kind::Interbank),
+            _ => Err(UnknownMarket),
+        }
+    }
+}
+
 impl Figures {
-    fn flaw(&self) -> Option<Flaw>
-        ensures { result ≡ flaw self.now }
+    fn check(&self) -> Result<(), Flaw>
+        ensures { result ≡ checked (flaw self.now) tt }
     {
         let highest = self.kind.highest();
         if self.buyer > 15 {
-            Some(Flaw::NoBuyer)
+            Err(Flaw::NoBuyer)
         } else if self.seller > 15 {
-            Some(Flaw::NoSeller)
+            Err(Flaw::NoSeller)
         } else if self.buyer == self.seller {
-            Some(Flaw::OneHouse)
+            Err(Flaw::OneHouse)
         } else if self.paper > 7 {
-            Some(Flaw::NoPaper)
-        } else if self.lots < 1 || self.lots > 1_000_000 {
-            Some(Flaw::Lots)
-        } else if self.quote < 1 || self.quote > u64::from(highest) {
-            Some(Flaw::Quote(highest))
+            Err(Flaw::NoPaper)
+        } else if !(1..=1_000_000).contains(&self.lots) {
+            Err(Flaw::Lots)
+        } else if !(1..=u64::from(highest)).contains(&self.quote) {
+            Err(Flaw::Quote(highest))
         } else if self.days > 365 {
-            Some(Flaw::Days)
+            Err(Flaw::Days)
         } else {
-            None
+            Ok(())
         }
     }
+}
 
-    // The trade that these figures tell, or the first of them that is out of range.
-    pub fn trade(&self) -> Result<Trade, Flaw>
-        ensures { result ≡ checked (flaw self.now) (told self.now) }
-    {
-        if let Some(flaw) = self.flaw() {
-            return Err(flaw);
-        }
+impl TryFrom<Figures> for Trade {
+    type Error = Flaw;
+
+    ghost try_from_gives = { λ figures r. r ≡ checked (flaw figures) (told figures) };
+
+    // The trade that the figures tell, or the first of them that is out of range.
+    fn try_from(figures: Figures) -> Result<Trade, Flaw> {
+        figures.check()?;
         Ok(Trade {
-            kind: self.kind,
-            buyer: self.buyer as u8,
-            seller: self.seller as u8,
-            paper: self.paper as u8,
-            lots: self.lots as u32,
-            quote: self.quote as u32,
-            days: self.days as u32,
+            kind: figures.kind,
+            buyer: figures.buyer as u8,
+            seller: figures.seller as u8,
+            paper: figures.paper as u8,
+            lots: figures.lots as u32,
+            quote: figures.quote as u32,
+            days: figures.days as u32,
         })
     }
 }

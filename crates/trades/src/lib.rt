@@ -1,7 +1,8 @@
-//! A trade: the checks on its figures, and its value in its market.
+//! A trade: the checks on its figures, its value in its market, and how it is printed.
 #![tactic(auto)]
 
 mod figures;
+mod shown;
 mod trade;
 
-pub use trade::{Figures, Flaw, Kind, Trade};
+pub use trade::{Figures, Flaw, Kind, Trade, UnknownMarket};

@@ -1,4 +1,5 @@
 //! A trade, and what may be wrong with its figures.
+use thiserror::Error;
 
 #[derive(Clone, Copy, PartialEq, Eq, Debug)]
 pub enum Kind {
@@ -6,6 +7,11 @@ pub enum Kind {
     Rate,
     Interbank,
 }
+
+// A word that names no market.
+#[derive(Clone, Copy, PartialEq, Eq, Debug, Error)]
+#[error("no market has this name")]
+pub struct UnknownMarket;
 
 #[derive(Clone, Copy, PartialEq, Eq, Debug)]
 pub struct Trade {
@@ -18,7 +24,7 @@ pub struct Trade {
     pub days: u32,
 }
 
-// The figures of a trade as they are written, in range or not.
+// The figures of a trade as they are written: unlike those of a `Trade`, in range or not.
 #[derive(Clone, Copy)]
 pub struct Figures {
     pub kind: Kind,
@@ -31,14 +37,21 @@ pub struct Figures {
 }
 
 // The first figure that is out of range.
-#[derive(Clone, Copy, PartialEq, Eq, Debug)]
+#[derive(Clone, Copy, PartialEq, Eq, Debug, Error)]
 pub enum Flaw {
+    #[error("buyer is not a house from 0 to 15")]
     NoBuyer,
+    #[error("seller is not a house from 0 to 15")]
     NoSeller,
+    #[error("buyer and seller are one house")]
     OneHouse,
+    #[error("paper is not from 0 to 7")]
     NoPaper,
+    #[error("lots are not from 1 to 1000000")]
     Lots,
     // The highest quote of the market.
+    #[error("quote is not from 1 to {0}")]
     Quote(u32),
+    #[error("days are not from 0 to 365")]
     Days,
 }

@@ -1,47 +1,21 @@
-ghost use Rattle.std.specs.Prelude.{◌≡◌, ℕ, ◌+◌, ◌-◌, ◌*◌, ◌<◌, ◌≤◌, true, false, ◌&&◌, if◌then◌else◌, Some, None};
-ghost use Rattle.lines.specs.Credit.{is, Clear, Grown, Freed};
-ghost use Rattle.lines.specs.Rules.{two_houses, Sound, answered, pair_refused, refusal_number, fault_case, LimitSet, BlockSet, Shown, missing, fault, Exact, falls_on, Uses, free_refused, Frees, FreesPair, Restores};
-ghost use Rattle.lines.specs.Of.{credit};
+ghost use Rattle.std.specs.Prelude.{◌≡◌, ℕ, ◌+◌, ◌≤◌, true, if◌then◌else◌, Some, None};
+ghost use Rattle.lines.specs.Credit.{Clear, set_at, Drawn, Freed};
+ghost use Rattle.lines.specs.Rules.{two_houses, Sound, answered, refusal_number, fault_case, LimitSet, BlockSet, Shown, short, fault, Exact, falls_on, Uses, free_refused, Frees, FreesPair, Restores};
+ghost use Rattle.lines.specs.Of.{credit, Has, Put};
 
-use super::{Fault, LessUsed, Line, Lines, Refusal};
-
-// The place of what one house has on another.
-fn place(house: u8, other: u8) -> Option<usize>
-    ensures { elim result [ Some i ↦ (two_houses house other ≡ true) × (i ≡ house * 16 + other) × (i < 256) | None ↦ two_houses house other ≡ false ] }
-{
-    if house < 16 && other < 16 && house != other {
-        Some(house as usize * 16 + other as usize)
-    } else {
-        None
-    }
-}
-
-// Refuses a house above 15, and then one house named as both.
-fn two_houses(house: u8, other: u8) -> Result<(), Refusal>
-    ensures { result ≡ answered (pair_refused house other) }
-{
-    if house >= 16 || other >= 16 {
-        return Err(Refusal::NoHouse);
-    }
-    if house == other {
-        return Err(Refusal::OneHouse);
-    }
-    Ok(())
-}
+use super::pair::Pair;
+use super::{Deal, Fault, LessUsed, Line, Lines, Refusal, Stance};
 
 impl Refusal {
     pub fn number(self) -> u8
         ensures { result ≡ refusal_number self }
     {
-        match self {
-            Refusal::NoHouse => 1,
-            Refusal::OneHouse => 2,
-            Refusal::BadLimit => 9,
-        }
+        self as u8
     }
 }
 
 impl Fault {
+    // A match, since a variant that holds data has no number of its own.
     pub fn case(self) -> u8
         ensures { result ≡ fault_case self }
     {
@@ -53,72 +27,68 @@ impl Fault {
     }
 }
 
+impl Deal {
+    // What is asked of each side's line on the other, the buyer's first: nothing where it does not pledge.
+    fn asked(self) -> (u64, u64)
+        ensures buyers { result.0 ≡ (if self.pledges.0 then self.value else 0) }
+        ensures sellers { result.1 ≡ (if self.pledges.1 then self.value else 0) }
+    {
+        let of = |pledges: bool| if pledges { self.value } else { 0 };
+        (of(self.pledges.0), of(self.pledges.1))
+    }
+}
+
 impl Lines {
     /// No line granted, and no block.
+    #[tactic(auto, using(crate::proofs::Entries::unpaired))]
     pub fn new() -> Lines
         ensures { Clear (credit result) }
     {
-        Lines::all(Line::NEW, false)
+        Lines::all(Stance::NEW)
     }
 
-    // Each house with the same line on each other, and the same mark of a block.
-    fn all(line: Line, block: bool) -> Lines
-        ensures limit { (g k : ℕ) → (credit result).limit g k ≡ (if two_houses g k then line.limit else 0) }
-        ensures used { (g k : ℕ) → (credit result).used g k ≡ (if two_houses g k then line.used else 0) }
-        ensures blocked { (g k : ℕ) → (credit result).blocked g k ≡ (if two_houses g k then block else false) }
+    // Every house has this on every other.
+    fn all(stance: Stance) -> Lines
+        ensures { (g k : ℕ) → two_houses g k ≡ true → Has (credit result) g k stance }
     {
         Lines {
-            lines: [line; 256],
-            blocks: [block; 256],
+            stances: [stance; 256],
         }
     }
 
-    // The line of one house on another; one at nothing where they are not two houses.
-    fn at(&self, granter: u8, counterparty: u8) -> Line
-        ensures limit { result.limit ≡ (credit self.now).limit granter counterparty }
-        ensures used { result.used ≡ (credit self.now).used granter counterparty }
-        ensures sound { Sound (credit self.now) }
+    fn at(&self, pair: Pair) -> Stance
+        ensures { Has (credit self.now) pair.granter pair.counterparty result }
     {
-        let Some(i) = place(granter, counterparty) else {
-            return Line::NEW;
-        };
-        self.lines[i]
+        self.stances[pair.place()]
     }
 
-    fn used(&self, granter: u8, counterparty: u8) -> u64
-        ensures { result ≡ (credit self.now).used granter counterparty }
+    fn put(&mut self, pair: Pair, stance: Stance)
+        ensures { Put (credit self.old) pair.granter pair.counterparty stance (credit self.new) }
     {
-        self.at(granter, counterparty).used
+        self.stances[pair.place()] = stance;
     }
 
-    fn blocked(&self, house: u8, other: u8) -> bool
-        ensures { result ≡ (credit self.now).blocked house other }
+    // What one house has on another; nothing where they are not two houses.
+    fn stance(&self, granter: u8, counterparty: u8) -> Stance
+        ensures { Has (credit self.now) granter counterparty result }
     {
-        match place(house, other) {
-            Some(i) => self.blocks[i],
-            None => false,
+        match Pair::of(granter, counterparty) {
+            Ok(pair) => self.at(pair),
+            Err(_) => Stance::NEW,
         }
     }
 
-    // Writes a line; nothing where they are not two houses.
-    fn put(&mut self, granter: u8, counterparty: u8, line: Line)
-        ensures limit { (g k : ℕ) → (credit self.new).limit g k ≡ (if two_houses granter counterparty && is granter counterparty g k then line.limit else (credit self.old).limit g k) }
-        ensures used { (g k : ℕ) → (credit self.new).used g k ≡ (if two_houses granter counterparty && is granter counterparty g k then line.used else (credit self.old).used g k) }
-        ensures blocked { (g k : ℕ) → (credit self.new).blocked g k ≡ (credit self.old).blocked g k }
+    // Sets what is used of a line; where they are not two houses, it can only be nothing, and is.
+    #[tactic(auto, using(crate::proofs::Entries::unpaired))]
+    fn set_used(&mut self, granter: u8, counterparty: u8, used: u64)
+        requires { used ≤ (credit self.old).limit granter counterparty }
+        ensures { Drawn (credit self.old) (set_at (credit self.old).used granter counterparty used) (credit self.new) }
     {
-        if let Some(i) = place(granter, counterparty) {
-            self.lines[i] = line;
-        }
-    }
-
-    // Writes a block; nothing where they are not two houses.
-    fn put_block(&mut self, house: u8, other: u8, on: bool)
-        ensures limit { (g k : ℕ) → (credit self.new).limit g k ≡ (credit self.old).limit g k }
-        ensures used { (g k : ℕ) → (credit self.new).used g k ≡ (credit self.old).used g k }
-        ensures blocked { (g k : ℕ) → (credit self.new).blocked g k ≡ (if two_houses house other && is house other g k then on else (credit self.old).blocked g k) }
-    {
-        if let Some(i) = place(house, other) {
-            self.blocks[i] = on;
+        if let Ok(pair) = Pair::of(granter, counterparty) {
+            let stance = self.at(pair);
+            let limit = stance.line.limit;
+            let line = Line { limit, used };
+            self.put(pair, Stance { line, ..stance });
         }
     }
 
@@ -126,12 +96,14 @@ impl Lines {
     pub fn set_limit(&mut self, granter: u8, counterparty: u8, pesos: u64) -> Result<(), Refusal>
         ensures { LimitSet (credit self.old) granter counterparty pesos result (credit self.new) }
     {
-        two_houses(granter, counterparty)?;
-        let used = self.used(granter, counterparty);
+        let pair = Pair::of(granter, counterparty)?;
+        let stance = self.at(pair);
+        let used = stance.line.used;
         if pesos < used || pesos > Line::CEILING {
             return Err(Refusal::BadLimit);
         }
-        self.put(granter, counterparty, Line { limit: pesos, used });
+        let line = Line { limit: pesos, used };
+        self.put(pair, Stance { line, ..stance });
         Ok(())
     }
 
@@ -139,134 +111,78 @@ impl Lines {
     pub fn set_block(&mut self, house: u8, other: u8, on: bool) -> Result<(), Refusal>
         ensures { BlockSet (credit self.old) house other on result (credit self.new) }
     {
-        two_houses(house, other)?;
-        self.put_block(house, other, on);
+        let pair = Pair::of(house, other)?;
+        let line = self.at(pair).line;
+        self.put(pair, Stance { line, blocked: on });
         Ok(())
     }
 
     /// Shows the line of one house on another.
+    #[tactic(auto, using(crate::proofs::Entries::sound))]
     pub fn line(&self, granter: u8, counterparty: u8) -> Result<Line, Refusal>
         ensures shown { Shown (credit self.now) granter counterparty result }
         ensures sound { Sound (credit self.now) }
     {
-        let shown = self.at(granter, counterparty);
-        two_houses(granter, counterparty)?;
-        Ok(shown)
+        let pair = Pair::of(granter, counterparty)?;
+        Ok(self.at(pair).line)
     }
 
-    // The pesos that a line lacks for a value.
-    fn missing(&self, granter: u8, counterparty: u8, value: u64) -> u64
-        ensures { result ≡ missing (credit self.now) granter counterparty value }
+    // Refuses a line with too few pesos for a value.
+    fn room(&self, granter: u8, counterparty: u8, value: u64) -> Result<(), Fault>
+        ensures { result ≡ answered (short (credit self.now) granter counterparty value) }
     {
-        let line = self.at(granter, counterparty);
-        value.saturating_sub(line.limit - line.used)
-    }
-
-    /// Whether two houses may trade for a value, and if not, why not. `pledges` says which side pledges, the buyer first.
-    pub fn may_trade(
-        &self,
-        pledges: (bool, bool),
-        buyer: u8,
-        seller: u8,
-        value: u64,
-    ) -> Option<Fault>
-        ensures first { result ≡ fault (credit self.now) pledges buyer seller value }
-        ensures exact { Exact (credit self.now) pledges buyer seller value result }
-    {
-        if buyer == seller {
-            return Some(Fault::OwnHouse);
-        }
-        if self.blocked(buyer, seller) {
-            return Some(Fault::Blocked { by: buyer });
-        }
-        if self.blocked(seller, buyer) {
-            return Some(Fault::Blocked { by: seller });
-        }
-        let pesos = self.missing(buyer, seller, value);
-        if pledges.0 && pesos > 0 {
-            return Some(Fault::Short {
-                granter: buyer,
-                counterparty: seller,
+        let line = self.stance(granter, counterparty).line;
+        let pesos = value.saturating_sub(line.limit - line.used);
+        if pesos > 0 {
+            return Err(Fault::Short {
+                granter,
+                counterparty,
                 pesos,
             });
         }
-        let pesos = self.missing(seller, buyer, value);
-        if pledges.1 && pesos > 0 {
-            return Some(Fault::Short {
-                granter: seller,
-                counterparty: buyer,
-                pesos,
-            });
-        }
-        None
-    }
-
-    // Uses more of a pledging granter's line, which has the room.
-    fn grow(&mut self, pledged: bool, granter: u8, counterparty: u8, value: u64)
-        requires { pledged ≡ true → (credit self.old).used granter counterparty + value ≤ (credit self.old).limit granter counterparty }
-        ensures { Grown (credit self.old) (λ g k. pledged && is granter counterparty g k) value (credit self.new) }
-    {
-        if pledged {
-            let line = self.at(granter, counterparty);
-            self.put(
-                granter,
-                counterparty,
-                Line {
-                    limit: line.limit,
-                    used: line.used + value,
-                },
-            );
-        }
-    }
-
-    // Frees a pledging granter's line, which has so much used.
-    fn shrink(&mut self, pledged: bool, granter: u8, counterparty: u8, value: u64)
-        requires { pledged ≡ true → value ≤ (credit self.old).used granter counterparty }
-        ensures { Freed (credit self.old) (λ g k. pledged && is granter counterparty g k) value (credit self.new) }
-    {
-        if pledged {
-            let line = self.at(granter, counterparty);
-            self.put(
-                granter,
-                counterparty,
-                Line {
-                    limit: line.limit,
-                    used: line.used - value,
-                },
-            );
-        }
-    }
-
-    /// Uses a value of each pledging side's line on the other, where the two may trade.
-    pub fn use_lines(
-        &mut self,
-        pledges: (bool, bool),
-        buyer: u8,
-        seller: u8,
-        value: u64,
-    ) -> Result<(), Fault>
-        ensures { Uses (credit self.old) pledges buyer seller value result (credit self.new) }
-    {
-        if let Some(fault) = self.may_trade(pledges, buyer, seller, value) {
-            return Err(fault);
-        }
-        self.grow(pledges.0, buyer, seller, value);
-        self.grow(pledges.1, seller, buyer, value);
         Ok(())
     }
 
-    // Refuses a pledging granter's line with less used than the value.
-    fn enough(
-        &self,
-        pledged: bool,
-        granter: u8,
-        counterparty: u8,
-        value: u64,
-    ) -> Result<(), LessUsed>
-        ensures { result ≡ answered (if pledged then free_refused (credit self.now) granter counterparty value else None) }
+    /// Whether two houses may trade, and if not, why not.
+    pub fn may_trade(&self, deal: Deal) -> Result<(), Fault>
+        ensures first { result ≡ answered (fault (credit self.now) deal) }
+        ensures exact { Exact (credit self.now) deal result }
     {
-        let used = self.used(granter, counterparty);
-        if pledged && used < value {
+        let Deal { buyer, seller, .. } = deal;
+        if buyer == seller {
+            return Err(Fault::OwnHouse);
+        }
+        if self.stance(buyer, seller).blocked {
+            return Err(Fault::Blocked { by: buyer });
+        }
+        if self.stance(seller, buyer).blocked {
+            return Err(Fault::Blocked { by: seller });
+        }
+        let (buyers, sellers) = deal.asked();
+        self.room(buyer, seller, buyers)?;
+        self.room(seller, buyer, sellers)
+    }
+
+    /// Uses the value of each pledging side's line on the other, where the two may trade.
+    pub fn use_lines(&mut self, deal: Deal) -> Result<(), Fault>
+        ensures { Uses (credit self.old) deal result (credit self.new) }
+    {
+        self.may_trade(deal)?;
+        let Deal { buyer, seller, .. } = deal;
+        let (buyers, sellers) = deal.asked();
+        let buyers_used = self.stance(buyer, seller).line.used + buyers;
+        let sellers_used = self.stance(seller, buyer).line.used + sellers;
+        self.set_used(buyer, seller, buyers_used);
+        self.set_used(seller, buyer, sellers_used);
+        Ok(())
+    }
+
+    // Refuses a line with less used than the value.
+    fn enough(&self, granter: u8, counterparty: u8, value: u64) -> Result<(), LessUsed>
+        ensures { result ≡ answered (free_refused (credit self.now) granter counterparty value) }
+    {
+        let used = self.stance(granter, counterparty).line.used;
+        if used < value {
             return Err(LessUsed {
                 granter,
                 counterparty,
@@ -280,35 +196,36 @@ impl Lines {
     pub fn free(&mut self, granter: u8, counterparty: u8, value: u64) -> Result<(), LessUsed>
         ensures { Frees (credit self.old) granter counterparty value result (credit self.new) }
     {
-        self.enough(true, granter, counterparty, value)?;
-        self.shrink(true, granter, counterparty, value);
+        self.enough(granter, counterparty, value)?;
+        let used = self.stance(granter, counterparty).line.used;
+        self.set_used(granter, counterparty, used - value);
         Ok(())
     }
 
     // Frees each pledging side's line on the other, which has so much used.
-    fn shrink_both(&mut self, pledges: (bool, bool), buyer: u8, seller: u8, value: u64)
-        requires buyer { pledges.0 ≡ true → value ≤ (credit self.old).used buyer seller }
-        requires seller { pledges.1 ≡ true → value ≤ (credit self.old).used seller buyer }
-        ensures { Freed (credit self.old) (falls_on pledges buyer seller) value (credit self.new) }
+    fn free_both(&mut self, deal: Deal)
+        requires buyers { deal.pledges.0 ≡ true → deal.value ≤ (credit self.old).used deal.buyer deal.seller }
+        requires sellers { deal.pledges.1 ≡ true → deal.value ≤ (credit self.old).used deal.seller deal.buyer }
+        ensures { Freed (credit self.old) (falls_on deal.pledges deal.buyer deal.seller) deal.value (credit self.new) }
     {
-        self.shrink(pledges.0, buyer, seller, value);
-        self.shrink(pledges.1, seller, buyer, value);
+        let Deal { buyer, seller, .. } = deal;
+        let (buyers, sellers) = deal.asked();
+        let buyers_left = self.stance(buyer, seller).line.used - buyers;
+        let sellers_left = self.stance(seller, buyer).line.used - sellers;
+        self.set_used(buyer, seller, buyers_left);
+        self.set_used(seller, buyer, sellers_left);
     }
 
-    /// Frees each pledging side's line on the other of a value: what `use_lines` took, this gives back.
-    pub fn free_pair(
-        &mut self,
-        pledges: (bool, bool),
-        buyer: u8,
-        seller: u8,
-        value: u64,
-    ) -> Result<(), LessUsed>
-        ensures freed { FreesPair (credit self.old) pledges buyer seller value result (credit self.new) }
-        ensures restores { Restores (credit self.old) pledges buyer seller value result (credit self.new) }
+    /// Frees the value of each pledging side's line on the other: what `use_lines` took, this gives back.
+    pub fn free_pair(&mut self, deal: Deal) -> Result<(), LessUsed>
+        ensures freed { FreesPair (credit self.old) deal result (credit self.new) }
+        ensures restores { Restores (credit self.old) deal result (credit self.new) }
     {
-        self.enough(pledges.0, buyer, seller, value)?;
-        self.enough(pledges.1, seller, buyer, value)?;
-        self.shrink_both(pledges, buyer, seller, value);
+        let Deal { buyer, seller, .. } = deal;
+        let (buyers, sellers) = deal.asked();
+        self.enough(buyer, seller, buyers)?;
+        self.enough(seller, buyer, sellers)?;
+        self.free_both(deal);
         Ok(())
     }
 }

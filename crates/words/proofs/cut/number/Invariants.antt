@@ -1,9 +1,10 @@
-use Rattle.std.proofs.Common.{◌≡◌, ◌^◌, ◌<◌, drop}
-use Rattle.words.specs.Words.{all_digits, read_on}
+use Rattle.std.proofs.Common.{◌≡◌, ◌+◌, ◌-◌, ◌*◌, ◌^◌, ◌<◌, true, take}
+use Rattle.std.specs.Char.{is_ascii_digit}
+use Rattle.std.specs.List.{list_all, fold}
 use Rattle.words.proofs.cut.number.Given as goal
 
 abbrev pub invariant-loop-b : goal.invariant-loop-b
 invariant-loop-b l =
-    (read_on l.n (drop l.b-index l.word) ≡ read_on 0 l.word)
-    × (all_digits (drop l.b-index l.word) ≡ all_digits l.word)
+    (l.n ≡ fold (λ n b. n * 10 + (b - 48)) 0 (take l.b-index l.word))
+    × (list_all is_ascii_digit (take l.b-index l.word) ≡ true)
     × (l.n < 10 ^ l.b-index)

@@ -1,13 +1,13 @@
 use Rattle.std.proofs.Common.{false}
 use Rattle.lines.specs.Of.{credit}
-use Rattle.lines.specs.declared.table.Line.{Line}
-use Rattle.lines.proofs.Entries.{entry_all, figure_all}
+use Rattle.lines.specs.declared.table.Stance.{Stance}
+use Rattle.lines.proofs.Entries.{figure_all}
 use Rattle.lines.proofs.table.Lines.all.Goals as goal
 
 pub returns : goal.returns
 unfolding credit
-returns c = record {
-  limit = figure_all (λ (l : Line). l.limit) c.args.line;
-  used = figure_all (λ (l : Line). l.used) c.args.line;
-  blocked = entry_all c.args.block false;
+returns c = λ g k two. record {
+  limit = figure_all (λ (s : Stance). s.line.limit) 0 c.args.stance g k two;
+  used = figure_all (λ (s : Stance). s.line.used) 0 c.args.stance g k two;
+  blocked = figure_all (λ (s : Stance). s.blocked) false c.args.stance g k two;
 }

@@ -1,24 +1,16 @@
-use Rattle.std.proofs.Common.{◌<◌, length, sym, arith}
+use Rattle.std.proofs.Common.{◌<◌, false, length, arith}
 use Rattle.lines.specs.Of.{credit}
-use Rattle.lines.specs.declared.table.Line.{Line}
-use Rattle.lines.proofs.Entries.{figure_read, sound}
+use Rattle.lines.specs.declared.table.Stance.{Stance}
+use Rattle.lines.proofs.Entries.{figure_read}
 use Rattle.lines.proofs.table.Lines.at.Goals as goal
 
 pub returns : goal.returns
 unfolding credit
 returns c =
-    let at = c.in-Some.ensures in
-    let h : c.in-Some.i < length c.args.self.now.lines = omega (arith, at.2) in
+    let stances = c.args.self.now.stances in
+    let h : c.place.result < length stances = omega (arith, c.place.ensures.within) in
     record {
-      limit = figure_read (λ (l : Line). l.limit) c.args.self.now.lines _ _ _ _ h at.0 at.1;
-      used = figure_read (λ (l : Line). l.used) c.args.self.now.lines _ _ _ _ h at.0 at.1;
-      sound = sound c.args.self.now;
+      limit = figure_read (λ (s : Stance). s.line.limit) 0 stances _ _ _ _ h c.args.pair.apart c.place.ensures.place;
+      used = figure_read (λ (s : Stance). s.line.used) 0 stances _ _ _ _ h c.args.pair.apart c.place.ensures.place;
+      blocked = figure_read (λ (s : Stance). s.blocked) false stances _ _ _ _ h c.args.pair.apart c.place.ensures.place;
     }
-
-pub returns-in_default : goal.returns-in_default
-returns-in_default c =
-    let s = sound c.args.self.now in
-    let g = c.args.granter in
-    let k = c.args.counterparty in
-    let no = s.no_line g k c.in_default.ensures in
-    record { limit = sym no; used = omega (arith, no, s.within g k); sound = s }

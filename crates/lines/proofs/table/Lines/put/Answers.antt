@@ -1,16 +1,16 @@
-use Rattle.std.proofs.Common.{◌<◌, length, refl, arith}
+use Rattle.std.proofs.Common.{◌<◌, false, length, arith}
 use Rattle.lines.specs.Of.{credit}
-use Rattle.lines.specs.declared.table.Line.{Line}
+use Rattle.lines.specs.declared.table.Stance.{Stance}
 use Rattle.lines.proofs.Entries.{figure_written}
 use Rattle.lines.proofs.table.Lines.put.Goals as goal
 
-pub returns-in-Some : goal.returns-in-Some
+pub returns : goal.returns
 unfolding credit
-returns-in-Some c =
-    let at = c.in-Some.ensures in
-    let h : c.in-Some.i < length c.args.self.now.lines = omega (arith, at.2) in
+returns c =
+    let stances = c.args.self.now.stances in
+    let h : c.place.result < length stances = omega (arith, c.place.ensures.within) in
     record {
-      limit = figure_written (λ (l : Line). l.limit) c.args.self.now.lines c.args.line _ _ _ h at.0 at.1;
-      used = figure_written (λ (l : Line). l.used) c.args.self.now.lines c.args.line _ _ _ h at.0 at.1;
-      blocked = λ g k. refl;
+      limit = figure_written (λ (s : Stance). s.line.limit) 0 stances c.args.stance _ _ _ h c.args.pair.apart c.place.ensures.place;
+      used = figure_written (λ (s : Stance). s.line.used) 0 stances c.args.stance _ _ _ h c.args.pair.apart c.place.ensures.place;
+      blocked = figure_written (λ (s : Stance). s.blocked) false stances c.args.stance _ _ _ h c.args.pair.apart c.place.ensures.place;
     }
