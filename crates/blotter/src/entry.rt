@@ -82,7 +82,7 @@ pub enum Flaw {
 impl From<UnknownMarket> for Flaw {
     ghost from_gives = { λ _ flaw. flaw ≡ Unknown };
 
-    fn from(_word: UnknownMarket) -> Flaw {
+    fn from(_: UnknownMarket) -> Flaw {
         Flaw::Unknown
     }
 }

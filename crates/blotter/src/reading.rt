@@ -24,6 +24,7 @@ fn house(words: &mut Words, field: Field) -> Result<u8, Flaw>
     if n > 15 {
         return Err(Flaw::NoHouse(field));
     }
+    // `as`, since it is proved to lose nothing: the bound is a house's and not the type's.
     Ok(n as u8)
 }
 

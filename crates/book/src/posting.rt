@@ -1,6 +1,7 @@
 // What is posted, and why a posting is refused. The types stand alone, since the definitions of specs/ name them.
 
 // Lots of a paper that a buyer has of a seller, and the pesos paid for them.
+// `Default` is for the blanks of an array vector of postings.
 #[derive(Clone, Copy, PartialEq, Eq, Debug, Default)]
 pub struct Posting {
     pub buyer: u8,

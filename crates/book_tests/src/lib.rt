@@ -3,6 +3,8 @@
 
 ghost use Rattle.book.specs.Laws.{Balanced};
 ghost use Rattle.book.specs.Sheet.{Clear};
+ghost use Rattle.journal.specs.Meaning.{journal_sheet};
+ghost use Rattle.net_sheet.specs.Meaning.{net_sheet};
 
 use book::{Book, Posting, post_all};
 use journal::Journal;
@@ -24,13 +26,27 @@ mod tests {
         }
     }
 
-    // The first law at any make, with nothing left to assume but that it begins with every balance zero.
+    // The first law, over any book that begins with every balance zero.
     fn posted<B: Book>(mut book: B, postings: &[Posting]) -> B
         requires { Clear (B.Book.sheet book) }
         ensures { Balanced (B.Book.sheet result) }
     {
         let _ = post_all(&mut book, postings);
         book
+    }
+
+    // The first law at a journal, with nothing left to assume.
+    fn journal_of(postings: &[Posting]) -> Journal
+        ensures { Balanced (journal_sheet result) }
+    {
+        posted(Journal::new(), postings)
+    }
+
+    // The first law at a net sheet, with nothing left to assume.
+    fn net_sheet_of(postings: &[Posting]) -> NetSheet
+        ensures { Balanced (net_sheet result) }
+    {
+        posted(NetSheet::new(), postings)
     }
 
     // The answer to a posting, with a refusal by its number.
@@ -81,10 +97,10 @@ mod tests {
     #[test]
     fn a_make_holds_what_is_posted(rt: HostRuntime) {
         let postings = [of(8, 3, 6, 12, 70), of(3, 8, 6, 20, 90)];
-        let journal = posted(Journal::new(), &postings);
+        let journal = journal_of(&postings);
         assert_eq!(rt; journal.balance(8, 6), -8);
         assert_eq!(rt; journal.cash(8), 20);
-        let net = posted(NetSheet::new(), &postings);
+        let net = net_sheet_of(&postings);
         assert_eq!(rt; net.balance(3, 6), 8);
         assert_eq!(rt; net.cash(3), -20);
     }

@@ -58,6 +58,7 @@ pub fn run(rt: &HostRuntime) -> Result<(), Stop> {
     };
     let bytes = input(rt, path)?;
     let mut out = BufWriter::new(rt.alloc(), rt.stdout())?;
+    // An arm for each book, and no `dyn`: a ledger holds its book by value, and is generic in it.
     let done = match keeping {
         Keeping::Journal => keep(Journal::new(), bytes.as_slice(), &mut out),
         Keeping::Net => keep(NetSheet::new(), bytes.as_slice(), &mut out),

@@ -8,7 +8,7 @@ use super::{Account, Journal, PLACES};
 use arrayvec::ArrayVec;
 use book::{Book, MOST_PESOS, Posting, Refusal};
 
-// What an amount that goes from one house to another adds at a house.
+// What an amount that goes from one house to another adds at a house. `as`, since the `requires` proves that it loses nothing.
 fn moved(to: u8, from: u8, amount: u64, house: u8) -> i64
     requires { amount ≤ MOST_PESOS }
     ensures value { result ≡ moved to from amount house }
@@ -39,7 +39,7 @@ fn added(account: Account, posting: Posting) -> i64
     }
 }
 
-// What postings add up to in an account. A `for`, since its invariant bounds the sum of signed terms at each step, as no chain's contract does.
+// What postings add up to in an account. A `for`, since a chain that sums signed numbers owes the same bound, and for every run of it.
 fn add_up(postings: &[Posting], account: Account) -> i64
     requires few { length postings.now ≤ PLACES }
     requires sound { AllPass acceptable postings.now }
@@ -89,6 +89,7 @@ impl Book for Journal {
     }
 
     fn places(&self) -> u32 {
+        // `as`, since the 256 places are proved to fit.
         self.postings.remaining_capacity() as u32
     }
 }

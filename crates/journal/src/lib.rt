@@ -14,7 +14,7 @@ const PLACES: usize = 256;
 
 // Every posting, in order: a balance is what they add up to.
 // The elements are not `Accepted`: an array vector fills its blanks with a default, and no accepted posting is a natural one.
-// There is no `impl Model`: the value would be functions of houses and papers, and the laws of `Book` need the invariant, which no view gives.
+// No `impl Model`: the laws of `Book` need the invariant, and a view is not given it.
 #[derive(Drop)]
 pub struct Journal {
     postings: ArrayVec<Posting, PLACES>,
@@ -22,6 +22,7 @@ pub struct Journal {
 }
 
 // One balance of the book: a house's lots of a paper, or its cash.
+// An enum and no closure: `add_up` would have to require of one what it answers for each acceptable posting, and within which bounds.
 #[derive(Clone, Copy)]
 enum Account {
     Lots(u8, u8),

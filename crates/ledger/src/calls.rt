@@ -72,7 +72,7 @@ impl<B: Book> Ledger<B> {
             .set_block(house, other, on)
     }
 
-    // Posts a trade that the lines allow for its value, and uses them.
+    // Posts a trade and uses its lines, where lines and book allow it, and answers its value; else changes nothing.
     pub fn take(&mut self, trade: Trade) -> Result<u64, NotPosted>
         ensures { Takes self.old.lines (B.Book.sheet self.old.book) trade result self.new.lines (B.Book.sheet self.new.book) }
     {

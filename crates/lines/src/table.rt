@@ -73,7 +73,7 @@ impl Stance {
 }
 
 /// The lines and the blocks of sixteen houses, sixteen places to a house, in the order of the granter and the counterparty.
-// No `impl Model`: the value would be a record of functions, the `Credit` of the specs, and a function has no code.
+// No `impl Model`: the value would be the `Credit` of the specs, and a model's value may not be made of functions.
 #[derive(Drop)]
 pub struct Lines {
     stances: [Stance; 256],

@@ -242,11 +242,17 @@ mod tests {
             used: 0,
         };
         assert_eq!(rt; lines.free(16, SELLER, 1), Err(nothing));
-        let free_16 = Deal {
+        let worthless = Deal {
             value: 0,
             ..buyer_16
         };
-        assert_eq!(rt; lines.use_lines(free_16), Ok(()));
+        assert_eq!(rt; lines.use_lines(worthless), Ok(()));
+        Ok(())
+    }
+
+    #[test]
+    fn the_largest_value_is_short(rt: HostRuntime) -> Result<(), Fail> {
+        let lines = opened(VALUE, VALUE)?;
         let most = Fault::Short {
             granter: 3,
             counterparty: 7,

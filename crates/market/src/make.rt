@@ -17,7 +17,7 @@ fn valued(lots: u32, quote: u32, days: u32, highest: u32) -> bool
     (1..=1_000_000).contains(&lots) && quoted(quote, highest) && days <= 365
 }
 
-// A make of market, whose quotes run from 1 up to its highest: it answers for what is in range alone.
+// A make of market, whose quotes run from 1 up to its highest: it answers for what is in range alone, by names of its own, since each make has the methods of `Market` too.
 pub trait Make {
     ghost formulas: { Formulas };
 

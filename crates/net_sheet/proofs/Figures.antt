@@ -38,20 +38,5 @@ within_moved most xs ys to from n places left small one few w e k =
     let next : 1000000 - left ≡ suc (1000000 - places) = omega arith in rw (next, suc-mul) in
     (omega (arith, ints, e k, v.0, (w k).0, more), omega (arith, ints, e k, v.1, (w k).1, more))
 
-pub within_less : (most : ℕ) (xs : List ℤ) (places : ℕ) → 1000000 * most ≤ 2 ^ 60 → Within ((1000000 - places) * most) xs → Within (2 ^ 60) xs
-within_less most xs places small w k =
-    let few : (1000000 - places) * most ≤ 1000000 * most = mul-le-mul_right most (sub-le 1000000 places) in
-    (omega (arith, ints, (w k).0), omega (arith, ints, (w k).1))
-
--- the figures of lots: eight papers to a house
-pub row_moved : (b s p n h q : ℕ) → p < 8 → q < 8 → moved (b * 8 + p) (s * 8 + p) n (h * 8 + q) ≡ when (q == p) (moved b s n h)
-row_moved b s p n h q hp hq = grind (arith, ints, nat_tests)
-
-pub row_held : (xs ys : List ℤ) (b s p n : ℕ) {bought sold : ℕ} → p < 8 → bought ≡ b * 8 + p → sold ≡ s * 8 + p
-    → ((k : ℕ) → slice_index_or ys k (pos 0) ≡ slice_index_or xs k (pos 0) +ℤ moved bought sold n k)
-    → (h q : ℕ) → when (nat_lt q 8) (slice_index_or ys (h * 8 + q) (pos 0)) ≡ when (nat_lt q 8) (slice_index_or xs (h * 8 + q) (pos 0)) +ℤ when (q == p) (moved b s n h)
-row_held xs ys b s p n {bought} {sold} hp at_b at_s e h q =
-    grind (arith, ints, nat_tests, e (h * 8 + q), row_moved b s p n h q hp)
-
 pub none_held : (n h p : ℕ) → when (nat_lt p 8) (slice_index_or (replicate n (pos 0)) (h * 8 + p) (pos 0)) ≡ pos 0
 none_held n h p = grind (arith, nat_tests, none_there n (h * 8 + p))

@@ -15,6 +15,7 @@ fn transfer(figures: &mut [i64], to: usize, from: usize, amount: u64)
     requires fits { Within (2 ^ 60) figures.old }
     ensures { (k : ℕ) → slice_index_or figures.new k (pos 0) ≡ slice_index_or figures.old k (pos 0) +ℤ moved to from amount k }
 {
+    // `as`, since the `requires` proves that it loses nothing.
     let amount = amount as i64;
     figures[from] -= amount;
     figures[to] += amount;

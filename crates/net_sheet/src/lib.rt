@@ -13,7 +13,7 @@ const PLACES: u32 = 1_000_000;
 
 // One figure for each balance. What each of the postings that it takes may move keeps the figures small.
 // Two plain arrays, and not one of a struct for each house: so one `transfer` serves lots and cash.
-// There is no `impl Model`: the value would be functions of houses and papers, and the laws of `Book` need the invariant, which no view gives.
+// No `impl Model`: the laws of `Book` need the invariant, and a view is not given it.
 #[derive(Drop)]
 pub struct NetSheet {
     lots: [i64; 128],

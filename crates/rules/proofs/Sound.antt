@@ -1,5 +1,5 @@
 -- What holds of every state that calls lead to from a new session.
-use Rattle.std.proofs.Common.{◌≡◌, ℕ, ◌+◌, ◌<◌, ◌≤◌, Bool, true, false, cond, not, eqb, ltb, leb, List, [], ◌∷◌, ◌++◌, map, length, get_or, Some, None, filter, Option, sym, refl, ap, ◌∙◌, subst, inl, inr, append-nil, arith}
+use Rattle.std.proofs.Common.{◌≡◌, ℕ, ◌+◌, ◌<◌, ◌≤◌, Bool, true, false, cond, not, eqb, ltb, List, [], ◌∷◌, ◌++◌, map, length, get_or, Some, None, filter, Option, sym, refl, ap, ◌∙◌, subst, inl, inr, append-nil, arith}
 use Rattle.std.proofs.lemmas.Bool.{cases_Bool, cond_both, cond-true, cond-false, eqb-true, eqb-false, eq-eqb, ne_eqb, ltb-true, lt-ltb, not-false, not_from_false, and_right}
 use Rattle.std.proofs.lemmas.Bool.Decides.{nat_tests}
 use Rattle.std.proofs.lemmas.Option.{none-some, same_Some}
@@ -20,7 +20,7 @@ use Rattle.rules.specs.State.{Session, State, seconds, put, showing}
 use Rattle.rules.specs.Board.{paired, pair_of, better, met, fewer, lesser, offer_of, reduced}
 use Rattle.rules.specs.Refusals.{refuse, first}
 use Rattle.rules.specs.Entering.{Way, through, offered, stand, first_able, begun, replaced, shown, exposed, entered, not_better, enter_rules}
-use Rattle.rules.specs.Ticking.{exposed_pair, lapses, after_lapses, ticked}
+use Rattle.rules.specs.Ticking.{exposed_pair, come, lapses, after_lapses, ticked}
 use Rattle.rules.specs.Laws.{NumbersDiffer, Crosses, Crossing, ShownWell, ExposuresCross}
 use Rattle.rules.proofs.Lists.{first_or_later, none_in, pairs_from, pairs_rest, find_in}
 use Rattle.rules.proofs.Kept.{ticked_keeps, through_keeps}
@@ -137,7 +137,7 @@ module _ (n : Session) where
   quieted_still s paper h zero q = cond_both (eqb q paper) None (s.papers q) (λ (x : Option Exposure). x ≡ None) (λ _. refl) (λ _. h.still zero q)
 
   not_quiet : (s : State) (o : Offer) (x : Exposure) → s.papers o.paper ≡ Some x → not (lapses s o) ≡ true
-  not_quiet s o x e = not_from_false (lapses s o) (and_right (ltb 0 o.lapse) _ (and_right (leb o.lapse s.clock) _ (ap is_none e)))
+  not_quiet s o x e = not_from_false (lapses s o) (and_right (come s.clock o.lapse) _ (ap is_none e))
 
   pub ticked_sound : (s : State) (clock : ℕ) → Sound n s → Sound n (after_lapses (ticked n s clock).state)
   ticked_sound s clock h =

@@ -1,5 +1,5 @@
 -- The standing offers: which of them an entering offer meets, and in which order.
-use Rattle.std.specs.Prelude.{ℕ, ◌-◌, min, Bool, true, false, cond, not, ◌&&◌, ◌||◌, List, [], ◌∷◌, map, filter, find, unwrap_or, ◌==◌, nat_le, nat_lt}
+use Rattle.std.specs.Prelude.{ℕ, ◌-◌, min, Bool, true, false, cond, not, ◌&&◌, ◌||◌, List, [], ◌∷◌, map, filter, find, unwrap_or, None, ◌==◌, nat_le, nat_lt}
 use Rattle.std.specs.List.{list_any}
 use Rattle.market.specs.Meaning.{Meaning}
 use Rattle.rules.specs.declared.offers.Offer.{Offer}
@@ -65,7 +65,7 @@ met m entering offers = best_first m (filter (meets m entering) offers)
 
 -- the offer that is read where none of a number stands
 abbrev pub no_offer : Offer
-no_offer = record { number = 0; house = 0; side = Buy; paper = 0; lots = 0; quote = 0; lapse = 0 }
+no_offer = record { number = 0; house = 0; side = Buy; paper = 0; lots = 0; quote = 0; lapse = None }
 
 -- the offer of a number
 abbrev pub offer_of : (number : ℕ) → List Offer → Offer

@@ -1,5 +1,5 @@
 -- The worked cases.
-use Rattle.std.specs.Prelude.{◌≡◌, ℕ, ◌^◌, List, [], ◌∷◌, ◌++◌, map, Ok, Result}
+use Rattle.std.specs.Prelude.{◌≡◌, ℕ, ◌^◌, List, [], ◌∷◌, ◌++◌, map, None, Ok, Result}
 use Rattle.market.specs.Makes.{price, rate, interbank}
 use Rattle.rules.specs.declared.calls.Answer.{Answer}
 use Rattle.rules.specs.declared.calls.Answer.TheVariants.{Done, Entered, Ticked}
@@ -28,10 +28,10 @@ lines house other pesos = Limit house other pesos ∷ Limit other house pesos �
 
 -- an offer of paper 0 that stands until it is withdrawn
 abbrev pub sells : (house lots quote : ℕ) → Call
-sells house lots quote = Enter (record { house = house; side = Sell; paper = 0; lots = lots; quote = quote; lapse = 0 })
+sells house lots quote = Enter (record { house = house; side = Sell; paper = 0; lots = lots; quote = quote; lapse = None })
 
 abbrev pub buys : (house lots quote : ℕ) → Call
-buys house lots quote = Enter (record { house = house; side = Buy; paper = 0; lots = lots; quote = quote; lapse = 0 })
+buys house lots quote = Enter (record { house = house; side = Buy; paper = 0; lots = lots; quote = quote; lapse = None })
 
 -- what is told of a close: buyer, seller, lots, price and value
 pub record Told : Type 0 where

@@ -1,5 +1,5 @@
 -- Entering an offer.
-use Rattle.std.specs.Prelude.{ℕ, ◌+◌, ◌*◌, Bool, cond, not, ◌&&◌, ◌||◌, List, [], ◌∷◌, ◌++◌, length, Some, None, fold, find, Option, ◌==◌, nat_le, nat_lt}
+use Rattle.std.specs.Prelude.{ℕ, ◌+◌, ◌*◌, Bool, false, cond, not, ◌&&◌, ◌||◌, List, [], ◌∷◌, ◌++◌, length, Some, None, fold, find, Option, ◌==◌, nat_le, nat_lt}
 use Rattle.market.specs.Meaning.{between}
 use Rattle.book.specs.declared.posting.Posting.{Posting}
 use Rattle.rules.specs.declared.calls.Entry.{Entry}
@@ -42,6 +42,11 @@ abbrev pub unable : Session → State → Offer → Option Exposure → Option R
 unable n s o None = None
 unable n s o (Some x) = carried (pair_fault n s (paired o (exposed (other o.side) x s)) o.quote)
 
+-- a lapse past the day, or one that the clock has come to
+abbrev pub bad_lapse : (clock : ℕ) → Option ℕ → Bool
+bad_lapse clock None = false
+bad_lapse clock (Some lapse) = nat_lt 86399 lapse || nat_le lapse clock
+
 -- why an entry is refused, tried from the top
 abbrev pub enter_rules : Session → (places : ℕ) → State → Entry → List (Option Refusal)
 enter_rules n places s e =
@@ -49,7 +54,7 @@ enter_rules n places s e =
     ∷ refuse (nat_lt 7 e.paper) NoPaper
     ∷ refuse (not (between 1 1000000 e.lots)) BadLots
     ∷ refuse (not (between n.market.lowest n.market.highest e.quote)) BadQuote
-    ∷ refuse (nat_lt 86399 e.lapse || (nat_lt 0 e.lapse && nat_le e.lapse s.clock)) BadLapse
+    ∷ refuse (bad_lapse s.clock e.lapse) BadLapse
     ∷ refuse (out_of_hours s) OutOfHours
     ∷ not_better n s (offered s e) (s.papers e.paper)
     ∷ unable n s (offered s e) (s.papers e.paper)

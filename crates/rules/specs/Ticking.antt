@@ -1,5 +1,5 @@
 -- The clock.
-use Rattle.std.specs.Prelude.{ℕ, ◌+◌, Bool, cond, not, ◌&&◌, ◌||◌, List, [], ◌∷◌, ◌++◌, fold, filter, is_none, Some, None, Option, nat_le, nat_lt}
+use Rattle.std.specs.Prelude.{ℕ, ◌+◌, Bool, false, cond, not, ◌&&◌, ◌||◌, List, [], ◌∷◌, ◌++◌, fold, filter, is_none, Some, None, Option, nat_le, nat_lt}
 use Rattle.book.specs.declared.posting.Posting.{Posting}
 use Rattle.rules.specs.declared.offers.Exposure.{Exposure}
 use Rattle.rules.specs.declared.offers.Offer.{Offer}
@@ -60,9 +60,14 @@ ticked n s clock =
     fold (λ t paper. due n t paper (t.state.papers paper)) (record { state = record s { clock = clock }; closes = 0; voids = 0; postings = [] })
     (0 ∷ 1 ∷ 2 ∷ 3 ∷ 4 ∷ 5 ∷ 6 ∷ 7 ∷ [])
 
--- an offer lapses when the clock has come to its lapse, if it has one, and its paper is quiet
+-- the clock has come to a lapse, if there is one
+abbrev pub come : (clock : ℕ) → Option ℕ → Bool
+come clock None = false
+come clock (Some lapse) = nat_le lapse clock
+
+-- an offer lapses when the clock has come to its lapse and its paper is quiet
 abbrev pub lapses : State → Offer → Bool
-lapses s o = nat_lt 0 o.lapse && (nat_le o.lapse s.clock && is_none (s.papers o.paper))
+lapses s o = come s.clock o.lapse && is_none (s.papers o.paper)
 
 -- then offers lapse: these
 abbrev pub lapsed : State → List Offer

@@ -22,8 +22,8 @@ pub struct Entry {
     pub paper: u8,
     pub lots: u32,
     pub quote: u32,
-    // Seconds after midnight; 0: until withdrawn. That is how the market writes it, and an Option would have a second way, `Some(0)`, to say it.
-    pub lapse: u32,
+    // Seconds after midnight; none: until withdrawn.
+    pub lapse: Option<u32>,
 }
 
 // A case: the number of the session that gave it out, and the close that it is about.

@@ -6,7 +6,7 @@ pub enum Side {
     Sell,
 }
 
-// A standing offer: the lots still wanted or offered, and when it lapses (0: when it is withdrawn, as in its `Entry`).
+// A standing offer: the lots still wanted or offered, and when it lapses, if it does before it is withdrawn.
 #[derive(Clone, Copy)]
 pub struct Offer {
     pub number: u32,
@@ -15,7 +15,7 @@ pub struct Offer {
     pub paper: u8,
     pub lots: u32,
     pub quote: u32,
-    pub lapse: u32,
+    pub lapse: Option<u32>,
 }
 
 // A pair that is shown to everybody before it closes: the numbers of its offers, its price, and when it ends.

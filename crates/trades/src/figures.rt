@@ -90,6 +90,7 @@ impl TryFrom<Figures> for Trade {
     // The trade that the figures tell, or the first of them that is out of range.
     fn try_from(figures: Figures) -> Result<Trade, Flaw> {
         figures.check()?;
+        // `as`, since after the check it is proved to lose nothing: a `try_from` would have an error that never comes.
         Ok(Trade {
             kind: figures.kind,
             buyer: figures.buyer as u8,

@@ -70,6 +70,7 @@ impl<'a> Iterator for Words<'a> {
 }
 
 // The lines of a text, handed out one by one, each without the byte that ends it.
+// A type beside `Words`, as std has one for each: the two share what they hold, and hand out by rules of their own.
 #[derive(Drop)]
 pub struct Lines<'a> {
     rest: &'a [u8],
@@ -93,6 +94,7 @@ impl<'a> Iterator for Lines<'a> {
     fn next(&mut self) -> Option<&'a [u8]> {
         let text = self.rest;
         let (line, end) = cut(text, Mark::LineEnd);
+        // behind the byte that ends the line, if one does
         self.rest = end.get(1..).unwrap_or(end);
         if text.is_empty() { None } else { Some(line) }
     }

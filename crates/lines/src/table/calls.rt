@@ -28,10 +28,10 @@ impl Fault {
 }
 
 impl Deal {
-    // What is asked of each side's line on the other, the buyer's first: nothing where it does not pledge.
+    // The pesos that are asked of each side's line on the other, the buyer's first: none where it does not pledge.
     fn asked(self) -> (u64, u64)
-        ensures buyers { result.0 ≡ (if self.pledges.0 then self.value else 0) }
-        ensures sellers { result.1 ≡ (if self.pledges.1 then self.value else 0) }
+        ensures buyer { result.0 ≡ (if self.pledges.0 then self.value else 0) }
+        ensures seller { result.1 ≡ (if self.pledges.1 then self.value else 0) }
     {
         let of = |pledges: bool| if pledges { self.value } else { 0 };
         (of(self.pledges.0), of(self.pledges.1))
@@ -78,7 +78,7 @@ impl Lines {
         }
     }
 
-    // Sets what is used of a line; where they are not two houses, it can only be nothing, and is.
+    // Sets what is used of a line. Two numbers that are not two houses have a line of which nothing can be used: then there is nothing to write.
     #[tactic(auto, using(crate::proofs::Entries::unpaired))]
     fn set_used(&mut self, granter: u8, counterparty: u8, used: u64)
         requires { used ≤ (credit self.old).limit granter counterparty }
@@ -158,9 +158,9 @@ impl Lines {
         if self.stance(seller, buyer).blocked {
             return Err(Fault::Blocked { by: seller });
         }
-        let (buyers, sellers) = deal.asked();
-        self.room(buyer, seller, buyers)?;
-        self.room(seller, buyer, sellers)
+        let (from_buyer, from_seller) = deal.asked();
+        self.room(buyer, seller, from_buyer)?;
+        self.room(seller, buyer, from_seller)
     }
 
     /// Uses the value of each pledging side's line on the other, where the two may trade.
@@ -169,11 +169,11 @@ impl Lines {
     {
         self.may_trade(deal)?;
         let Deal { buyer, seller, .. } = deal;
-        let (buyers, sellers) = deal.asked();
-        let buyers_used = self.stance(buyer, seller).line.used + buyers;
-        let sellers_used = self.stance(seller, buyer).line.used + sellers;
-        self.set_used(buyer, seller, buyers_used);
-        self.set_used(seller, buyer, sellers_used);
+        let (from_buyer, from_seller) = deal.asked();
+        let buyer_used = self.stance(buyer, seller).line.used + from_buyer;
+        let seller_used = self.stance(seller, buyer).line.used + from_seller;
+        self.set_used(buyer, seller, buyer_used);
+        self.set_used(seller, buyer, seller_used);
         Ok(())
     }
 
@@ -204,16 +204,16 @@ impl Lines {
 
     // Frees each pledging side's line on the other, which has so much used.
     fn free_both(&mut self, deal: Deal)
-        requires buyers { deal.pledges.0 ≡ true → deal.value ≤ (credit self.old).used deal.buyer deal.seller }
-        requires sellers { deal.pledges.1 ≡ true → deal.value ≤ (credit self.old).used deal.seller deal.buyer }
+        requires buyer { deal.pledges.0 ≡ true → deal.value ≤ (credit self.old).used deal.buyer deal.seller }
+        requires seller { deal.pledges.1 ≡ true → deal.value ≤ (credit self.old).used deal.seller deal.buyer }
         ensures { Freed (credit self.old) (falls_on deal.pledges deal.buyer deal.seller) deal.value (credit self.new) }
     {
         let Deal { buyer, seller, .. } = deal;
-        let (buyers, sellers) = deal.asked();
-        let buyers_left = self.stance(buyer, seller).line.used - buyers;
-        let sellers_left = self.stance(seller, buyer).line.used - sellers;
-        self.set_used(buyer, seller, buyers_left);
-        self.set_used(seller, buyer, sellers_left);
+        let (from_buyer, from_seller) = deal.asked();
+        let buyer_left = self.stance(buyer, seller).line.used - from_buyer;
+        let seller_left = self.stance(seller, buyer).line.used - from_seller;
+        self.set_used(buyer, seller, buyer_left);
+        self.set_used(seller, buyer, seller_left);
     }
 
     /// Frees the value of each pledging side's line on the other: what `use_lines` took, this gives back.
@@ -222,9 +222,9 @@ impl Lines {
         ensures restores { Restores (credit self.old) deal result (credit self.new) }
     {
         let Deal { buyer, seller, .. } = deal;
-        let (buyers, sellers) = deal.asked();
-        self.enough(buyer, seller, buyers)?;
-        self.enough(seller, buyer, sellers)?;
+        let (from_buyer, from_seller) = deal.asked();
+        self.enough(buyer, seller, from_buyer)?;
+        self.enough(seller, buyer, from_seller)?;
         self.free_both(deal);
         Ok(())
     }

@@ -3,7 +3,7 @@ ghost use Rattle.lines.specs.Rules.{two_houses, pair_refused};
 
 use super::Refusal;
 
-// Two houses that differ, in order.
+// Two houses that differ: the first, whose line or block it is, and the one that it is on.
 #[derive(Clone, Copy)]
 pub struct Pair {
     pub granter: u8,

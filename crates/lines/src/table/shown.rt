@@ -1,10 +1,12 @@
 ghost use Rattle.std.specs.Prelude.{Some};
-ghost use Rattle.lines.specs.Printed.{cause};
+ghost use Rattle.lines.specs.Printed.{refusal_text, cause};
 
 use super::{Fault, Refusal};
 use std::fmt;
 
 impl fmt::Display for Refusal {
+    ghost output = { λ refusal. Some (refusal_text refusal) };
+
     fn fmt<W: fmt::Write>(&self, f: &mut fmt::Formatter<W>) -> fmt::Result {
         f.write_str(match self {
             Refusal::NoHouse => "a house is above 15",
