@@ -1,5 +1,5 @@
 -- What a line of the input tells.
-use Rattle.std.specs.Prelude.{ℕ, Bool, true, false, cond, List, Some, None, Ok, Err, codes, Option, Result, ◌==◌, nat_lt, slice_index}
+use Rattle.std.specs.Prelude.{◌≡◌, ℕ, Bool, true, false, cond, List, Some, None, Ok, Err, codes, Option, Result, ◌==◌, nat_lt, slice_index}
 use Rattle.std.specs.Option.{ok_or}
 use Rattle.std.specs.Str.{bytes_eq}
 use Rattle.words.specs.Words.{word, next_word, after, number}
@@ -20,6 +20,11 @@ infixl 10 ◌>>=◌
 abbrev pub ◌>>=◌ : {X Y : Type 0} → Result X Flaw → (X → Result Y Flaw) → Result Y Flaw
 Ok x >>= f = f x
 Err e >>= f = Err e
+
+-- r is what the text's first word tells, and that word is read
+pub record Reads {X : Type 0} (tells : List ℕ → Result X Flaw) (text : List ℕ) (r : Result X Flaw) (rest : List ℕ) : Type 0 where
+  pub told : r ≡ tells text
+  pub behind : rest ≡ after text
 
 -- a word that must be there and be a number
 abbrev pub figure : Field → List ℕ → Result ℕ Flaw

@@ -39,6 +39,7 @@ pub enum Field {
     Switch,
 }
 
+// By hand, since what a derive prints has no contract.
 impl fmt::Display for Field {
     ghost output = { λ field. Some (called field) };
 
@@ -79,6 +80,7 @@ pub enum Flaw {
     Trade(trades::Flaw),
 }
 
+// The conversions are by hand, since a derived one has no contract.
 impl From<UnknownMarket> for Flaw {
     ghost from_gives = { λ _ flaw. flaw ≡ Unknown };
 

@@ -1,24 +1,21 @@
 //! A line, read.
 ghost use Rattle.std.specs.Prelude.{◌≡◌};
-ghost use Rattle.words.specs.Words.{after};
 ghost use Rattle.trades.specs.Trades.{kind};
-ghost use Rattle.blotter.specs.Reading.{figure, house, switch, ends, ended, figures, limit, block, entry, trade, read};
+ghost use Rattle.blotter.specs.Reading.{Reads, figure, house, switch, ends, ended, figures, limit, block, entry, trade, read};
 
 use super::entry::{Entry, Field, Flaw};
 use trades::{Figures, Kind, Trade};
 use words::{Words, number};
 
 fn figure(words: &mut Words, field: Field) -> Result<u64, Flaw>
-    ensures figure { result ≡ figure field words.old.rest.now }
-    ensures rest { words.new.rest.now ≡ after words.old.rest.now }
+    ensures { Reads (figure field) words.old.rest.now result words.new.rest.now }
 {
     let word = words.next().ok_or(Flaw::Missing(field))?;
     number(word).ok_or(Flaw::NoNumber(field))
 }
 
 fn house(words: &mut Words, field: Field) -> Result<u8, Flaw>
-    ensures house { result ≡ house field words.old.rest.now }
-    ensures rest { words.new.rest.now ≡ after words.old.rest.now }
+    ensures { Reads (house field) words.old.rest.now result words.new.rest.now }
 {
     let n = figure(words, field)?;
     if n > 15 {
@@ -29,8 +26,7 @@ fn house(words: &mut Words, field: Field) -> Result<u8, Flaw>
 }
 
 fn switch(words: &mut Words) -> Result<bool, Flaw>
-    ensures switch { result ≡ switch words.old.rest.now }
-    ensures rest { words.new.rest.now ≡ after words.old.rest.now }
+    ensures { Reads switch words.old.rest.now result words.new.rest.now }
 {
     match words.next() {
         None => Err(Flaw::Missing(Field::Switch)),

@@ -1,4 +1,4 @@
-//! The lines that are printed, byte for byte.
+//! The lines that are printed, byte for byte: by hand, since what a derive prints has no contract.
 ghost use Rattle.std.specs.Prelude.{Some};
 ghost use Rattle.blotter.specs.Printed.{trade_line, passed_line, lots_line, cash_line};
 

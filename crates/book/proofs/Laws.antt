@@ -91,8 +91,3 @@ taken_back before between after x p q = record {
   );
   cash = λ h. omega (arith, ints, p.cash h, q.cash h);
 }
-
--- what an accepted posting did
-pub posted : (old new : Sheet) (x : Posting) (answer : Result (Unit {0}) Refusal) → Posts old x answer new → answer ≡ Ok tt → Posted old x new
-posted old new x (Ok done) p e = p.posted
-posted old new x (Err why) p e = absurd (cc)

@@ -22,6 +22,7 @@ impl Refusal {
     }
 }
 
+// By hand, since what a derive prints has no contract.
 impl fmt::Display for Refusal {
     ghost output = { λ why. Some (refusal_text why) };
 

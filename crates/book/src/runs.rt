@@ -6,13 +6,13 @@ use super::Book;
 use super::posting::{Posting, Refusal};
 
 // How many of the postings were accepted, and how many refused.
-#[derive(Clone, Copy)]
+#[derive(Clone, Copy, PartialEq, Eq, Debug)]
 pub struct Tally {
     pub accepted: usize,
     pub refused: usize,
 }
 
-// Posts each posting in turn, passing over a refused one, and counts the accepted ones.
+// Posts each posting in turn, passing over a refused one, and counts the accepted ones. A `for`: a filter that posts leaves open what it counted.
 fn run_all<B: Book>(book: &mut B, postings: &[Posting]) -> usize
     ensures run { Run (B.Book.sheet book.old) postings.now result (B.Book.sheet book.new) }
     ensures balanced { Clear (B.Book.sheet book.old) → Balanced (B.Book.sheet book.new) }
@@ -43,7 +43,6 @@ pub fn post_all<B: Book>(book: &mut B, postings: &[Posting]) -> Tally
 }
 
 // Takes a posting back: posts it with buyer and seller exchanged. Where it was the last to be posted, every balance is as before it.
-#[tactic(auto, using(crate::proofs::Laws::taken_back, crate::proofs::Laws::posted))]
 pub fn take_back<B: Book>(book: &mut B, posting: Posting) -> Result<(), Refusal>
     ensures posts { Posts (B.Book.sheet book.old) (exchanged posting) result (B.Book.sheet book.new) }
     ensures restored { result ≡ Ok tt → (before : Sheet) → Posted before posting (B.Book.sheet book.old) → SameBalances before (B.Book.sheet book.new) }

@@ -33,7 +33,12 @@ fn added(account: Account, posting: Posting) -> i64
             if paper != posting.paper {
                 return 0;
             }
-            moved(posting.buyer, posting.seller, posting.lots as u64, house)
+            moved(
+                posting.buyer,
+                posting.seller,
+                u64::from(posting.lots),
+                house,
+            )
         }
         Account::Cash(house) => moved(posting.seller, posting.buyer, posting.pesos, house),
     }

@@ -13,6 +13,7 @@ pub enum NotPosted {
     Refused(Refusal),
 }
 
+// The conversions are by hand, since a derived one has no contract.
 impl From<Fault> for NotPosted {
     ghost from_gives = { λ fault r. r ≡ PassedOver fault };
 

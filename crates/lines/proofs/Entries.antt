@@ -31,21 +31,17 @@ module _ {X : Type 0} (f : Stance → X) (none : X) where
       grind (arith, nat_tests)
 
 -- every line of a table keeps to its limit, and every limit to the ceiling
-used_within : (ss : List Stance) (i : ℕ) → get_or (map (λ s. s.line.used) ss) i 0 ≤ get_or (map (λ s. s.line.limit) ss) i 0
-used_within [] i = omega arith
-used_within (s ∷ ss) zero = s.line.within
-used_within (s ∷ ss) (suc i) = used_within ss i
-
-limit_capped : (ss : List Stance) (i : ℕ) → get_or (map (λ s. s.line.limit) ss) i 0 ≤ 10 ^ 15
-limit_capped [] i = omega arith
-limit_capped (s ∷ ss) zero = s.line.capped
-limit_capped (s ∷ ss) (suc i) = limit_capped ss i
+kept : (ss : List Stance) (i : ℕ)
+    → (get_or (map (λ s. s.line.used) ss) i 0 ≤ get_or (map (λ s. s.line.limit) ss) i 0) × (get_or (map (λ s. s.line.limit) ss) i 0 ≤ 10 ^ 15)
+kept [] i = (omega arith, omega arith)
+kept (s ∷ ss) zero = (s.line.within, s.line.capped)
+kept (s ∷ ss) (suc i) = kept ss i
 
 pub sound : (l : Lines) → Sound (credit l)
 unfolding credit
 sound l = record {
-  within = λ g k. let h = used_within l.stances (g * 16 + k) in grind (arith, nat_tests);
-  capped = λ g k. let h = limit_capped l.stances (g * 16 + k) in grind (arith, nat_tests);
+  within = λ g k. let h = (kept l.stances (g * 16 + k)).0 in grind (arith, nat_tests);
+  capped = λ g k. let h = (kept l.stances (g * 16 + k)).1 in grind (arith, nat_tests);
   no_line = λ g k no. grind (arith, nat_tests);
   no_block = λ g k no. grind (arith, nat_tests);
 }

@@ -5,7 +5,7 @@ mod pair;
 mod shown;
 
 /// What a house, the granter, lets another owe it, in pesos, and how much of that is used.
-#[derive(Clone, Copy)]
+#[derive(Clone, Copy, PartialEq, Eq, Debug)]
 pub struct Line {
     pub limit: u64,
     pub used: u64,
@@ -73,7 +73,7 @@ impl Stance {
 }
 
 /// The lines and the blocks of sixteen houses, sixteen places to a house, in the order of the granter and the counterparty.
-// No `impl Model`: the value would be the `Credit` of the specs, and a model's value may not be made of functions.
+// No `impl Model`: the clauses speak of the `Credit`, which is made of functions, as a model's value may not be; over a list of stances each clause would be as long.
 #[derive(Drop)]
 pub struct Lines {
     stances: [Stance; 256],

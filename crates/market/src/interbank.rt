@@ -3,6 +3,7 @@ ghost use Rattle.market.specs.Makes.{interbank_formulas, nearest};
 ghost use Rattle.market.specs.Formulas.{interbank_ranged, interbank_dearer};
 
 use super::make::Make;
+use super::terms::Terms;
 use super::units::{LOT, WHOLE};
 
 // Quotes are yearly rates in basis points, at which the buyer borrows the lots.
@@ -36,9 +37,10 @@ impl Make for Interbank {
         quote
     }
 
-    fn worth(lots: u32, quote: u32, days: u32) -> u64 {
-        let principal = lots as u64 * LOT;
-        principal + interest(principal * (quote as u64 * days as u64))
+    fn worth(terms: Terms) -> u64 {
+        let principal = u64::from(terms.lots) * LOT;
+        let span = u64::from(terms.quote) * u64::from(terms.days);
+        principal + interest(principal * span)
     }
 
     fn sides_that_pledge() -> (bool, bool) {

@@ -4,6 +4,7 @@ ghost use Rattle.market.specs.Meaning.{Ranged, Dearer, between, tradable};
 ghost use Rattle.market.specs.Makes.{Formulas, market};
 
 use super::Market;
+use super::terms::Terms;
 
 fn quoted(quote: u32, highest: u32) -> bool
     ensures { result ≡ between 1 highest quote }
@@ -11,16 +12,17 @@ fn quoted(quote: u32, highest: u32) -> bool
     (1..=highest).contains(&quote)
 }
 
-fn valued(lots: u32, quote: u32, days: u32, highest: u32) -> bool
-    ensures { result ≡ tradable 1 highest lots quote days }
+fn valued(terms: Terms, highest: u32) -> bool
+    ensures { result ≡ tradable 1 highest terms.lots terms.quote terms.days }
 {
-    (1..=1_000_000).contains(&lots) && quoted(quote, highest) && days <= 365
+    (1..=1_000_000).contains(&terms.lots) && quoted(terms.quote, highest) && terms.days <= 365
 }
 
 // A make of market, whose quotes run from 1 up to its highest: it answers for what is in range alone, by names of its own, since each make has the methods of `Market` too.
 pub trait Make {
     ghost formulas: { Formulas };
 
+    // Functions, and no constants: a constant would want a ghost twin and a law that ties it to the formulas.
     fn highest_quote() -> u32
         ensures { result ≡ formulas.highest };
 
@@ -28,9 +30,9 @@ pub trait Make {
         requires { between 1 formulas.highest quote ≡ true }
         ensures { result ≡ formulas.rank quote };
 
-    fn worth(lots: u32, quote: u32, days: u32) -> u64
-        requires { tradable 1 formulas.highest lots quote days ≡ true }
-        ensures { result ≡ formulas.value lots quote days };
+    fn worth(terms: Terms) -> u64
+        requires { tradable 1 formulas.highest terms.lots terms.quote terms.days ≡ true }
+        ensures { result ≡ formulas.value terms.lots terms.quote terms.days };
 
     fn sides_that_pledge() -> (bool, bool)
         ensures { result ≡ formulas.pledges };
@@ -63,9 +65,9 @@ impl<M: Make> Market for M {
         }
     }
 
-    fn value(&self, lots: u32, quote: u32, days: u32) -> u64 {
-        if valued(lots, quote, days, M::highest_quote()) {
-            M::worth(lots, quote, days)
+    fn value(&self, terms: Terms) -> u64 {
+        if valued(terms, M::highest_quote()) {
+            M::worth(terms)
         } else {
             0
         }

@@ -2,6 +2,7 @@ ghost use Rattle.market.specs.Makes.{price_formulas};
 ghost use Rattle.market.specs.Formulas.{price_ranged, price_dearer};
 
 use super::make::Make;
+use super::terms::Terms;
 
 // Quotes are prices, in thousandths of one per cent of nominal.
 #[derive(Clone, Copy)]
@@ -22,8 +23,8 @@ impl Make for Price {
         quote
     }
 
-    fn worth(lots: u32, quote: u32, _days: u32) -> u64 {
-        lots as u64 * quote as u64
+    fn worth(terms: Terms) -> u64 {
+        u64::from(terms.lots) * u64::from(terms.quote)
     }
 
     fn sides_that_pledge() -> (bool, bool) {

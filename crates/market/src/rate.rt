@@ -2,6 +2,7 @@ ghost use Rattle.market.specs.Makes.{rate_formulas};
 ghost use Rattle.market.specs.Formulas.{rate_ranged, rate_dearer};
 
 use super::make::Make;
+use super::terms::Terms;
 use super::units::{LOT, WHOLE};
 
 // Quotes are yearly rates in basis points: the higher the rate, the cheaper the paper.
@@ -25,8 +26,9 @@ impl Make for Rate {
         (HIGHEST + 1) - quote
     }
 
-    fn worth(lots: u32, quote: u32, days: u32) -> u64 {
-        lots as u64 * (LOT * WHOLE / (WHOLE + quote as u64 * days as u64))
+    fn worth(terms: Terms) -> u64 {
+        let span = u64::from(terms.quote) * u64::from(terms.days);
+        u64::from(terms.lots) * (LOT * WHOLE / (WHOLE + span))
     }
 
     fn sides_that_pledge() -> (bool, bool) {

@@ -1,7 +1,7 @@
 //! Figures of the three markets, worked by hand, at every edge of every range.
 #![tactic(auto)]
 
-use market::{Interbank, Market, Price, Rate};
+use market::{Interbank, Market, Price, Rate, Terms};
 
 #[cfg(test)]
 mod tests {
@@ -12,8 +12,13 @@ mod tests {
     struct Worth(u32, u32, u32, u64);
 
     fn check_worth<M: Market>(rt: &impl Abort, market: &M, cases: &[Worth]) {
-        for case in cases {
-            assert_eq!(rt; market.value(case.0, case.1, case.2), case.3);
+        for Worth(lots, quote, days, pesos) in cases {
+            let terms = Terms {
+                lots: *lots,
+                quote: *quote,
+                days: *days,
+            };
+            assert_eq!(rt; market.value(terms), *pesos);
         }
     }
 
@@ -21,8 +26,8 @@ mod tests {
     struct Ranks(u32, u32);
 
     fn check_ranks<M: Market>(rt: &impl Abort, market: &M, cases: &[Ranks]) {
-        for case in cases {
-            assert_eq!(rt; market.rank(case.0), case.1);
+        for Ranks(quote, rank) in cases {
+            assert_eq!(rt; market.rank(*quote), *rank);
         }
     }
 

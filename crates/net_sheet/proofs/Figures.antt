@@ -1,10 +1,11 @@
 -- What a posting does to the figures of a net sheet.
-use Rattle.std.specs.Prelude.{◌≡◌, ℕ, zero, suc, ◌+◌, ◌-◌, ◌*◌, ◌^◌, ◌<◌, ◌≤◌, cond, List, length, replicate, ℤ, pos, ◌+ℤ◌, ◌-ℤ◌, ◌==◌, nat_lt, slice_index_or, slice_set, refl}
-use Rattle.std.proofs.Common.{arith, suc-mul, mul-le-mul_right, sub-le, length-set, get_or-set_same, get_or-set_other}
+use Rattle.std.specs.Prelude.{◌≡◌, ℕ, suc, ◌+◌, ◌-◌, ◌*◌, ◌<◌, ◌≤◌, cond, List, length, replicate, ℤ, pos, ◌+ℤ◌, ◌-ℤ◌, ◌==◌, slice_index_or, slice_set}
+use Rattle.std.proofs.Common.{arith, suc-mul, length-set, get_or-set_same, get_or-set_other}
+use Rattle.std.proofs.lemmas.List.{get_or-replicate, get_or_past, length-replicate}
 use Rattle.std.proofs.lemmas.Int.{ints}
 use Rattle.std.proofs.lemmas.Bool.{cases_eq}
 use Rattle.std.proofs.lemmas.Bool.Decides.{nat_tests}
-use Rattle.book.specs.Sheet.{when, moved}
+use Rattle.book.specs.Sheet.{moved}
 use Rattle.book.proofs.Bounds.{moved_within}
 use Rattle.net_sheet.specs.Kept.{Within}
 
@@ -22,9 +23,7 @@ put_both xs to from n u v ht hf eu ev k =
     grind (arith, ints, nat_tests, taken, there, added)
 
 pub none_there : (n k : ℕ) → slice_index_or (replicate n (pos 0)) k (pos 0) ≡ pos 0
-none_there zero k = refl
-none_there (suc n) zero = refl
-none_there (suc n) (suc k) = none_there n k
+none_there n k = grind (arith, get_or-replicate n k (pos 0) (pos 0), get_or_past (replicate n (pos 0)) k (pos 0), length-replicate n (pos 0))
 
 pub within_none : (w n : ℕ) → Within w (replicate n (pos 0))
 within_none w n k = let z = none_there n k in (omega (arith, ints, z), omega (arith, ints, z))
@@ -37,6 +36,3 @@ within_moved most xs ys to from n places left small one few w e k =
     let more : (1000000 - left) * most ≡ (1000000 - places) * most + most =
     let next : 1000000 - left ≡ suc (1000000 - places) = omega arith in rw (next, suc-mul) in
     (omega (arith, ints, e k, v.0, (w k).0, more), omega (arith, ints, e k, v.1, (w k).1, more))
-
-pub none_held : (n h p : ℕ) → when (nat_lt p 8) (slice_index_or (replicate n (pos 0)) (h * 8 + p) (pos 0)) ≡ pos 0
-none_held n h p = grind (arith, nat_tests, none_there n (h * 8 + p))

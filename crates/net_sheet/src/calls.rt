@@ -25,7 +25,7 @@ fn transfer(figures: &mut [i64], to: usize, from: usize, amount: u64)
 fn figure_of(house: u8, paper: u8) -> usize
     ensures { result ≡ house * 8 + paper }
 {
-    house as usize * PAPERS as usize + paper as usize
+    usize::from(house) * usize::from(PAPERS) + usize::from(paper)
 }
 
 // The places that are left when a posting has taken one.
@@ -66,6 +66,7 @@ impl NetSheet {
         ensures place { (net_sheet self.new).places + 1 ≡ (net_sheet self.old).places }
     {
         let posting = accepted.posting;
+        // `as` and no `from`, tried: the proof of the figures' bounds no longer closed.
         let bought = figure_of(posting.buyer, posting.paper);
         let sold = figure_of(posting.seller, posting.paper);
         transfer(&mut self.lots, bought, sold, posting.lots as u64);
@@ -106,7 +107,7 @@ impl Book for NetSheet {
         if house >= HOUSES {
             return 0;
         }
-        self.cash[house as usize]
+        self.cash[usize::from(house)]
     }
 
     fn places(&self) -> u32 {

@@ -1,18 +1,19 @@
 -- What stands in a list, and lists in order.
-use Rattle.std.proofs.Common.{◌≡◌, ℕ, zero, suc, ◌<◌, Bool, true, ◌⊎◌, List, [], ◌∷◌, length, get_or, Some, filter, find, sym, refl, ap, ◌∙◌, subst, inl, inr, arith}
+use Rattle.std.proofs.Common.{◌≡◌, suc, Bool, true, ◌⊎◌, List, [], ◌∷◌, get_or, Some, filter, find, sym, refl, ap, ◌∙◌, subst, inl, inr, arith}
 use Rattle.std.specs.Prelude.{Contains, AllPairs}
 use Rattle.std.proofs.lemmas.Bool.{cases_Bool, both_ways}
-use Rattle.std.proofs.lemmas.Option.{none-some, same_Some}
-use Rattle.std.proofs.lemmas.List.Elements.{All-contains, All-filter, All-contains_itself, filter_passes, Contains-get_or, Contains-append_right}
+use Rattle.std.proofs.lemmas.Option.{slice_get_within, get_or_from_slice_get}
+use Rattle.std.proofs.lemmas.List.Folds.{find_at}
+use Rattle.std.specs.List.{position_or_len, slice_get}
+use Rattle.std.proofs.lemmas.List.Elements.{All-contains, All-filter, All-contains_itself, filter_passes, Contains-append_cases, Contains-push_cases, Contains-get_or, Contains-append_right}
 use Rattle.std.proofs.lemmas.List.Kept.{AllPairs-cons}
 
 module _ {X : Type 0} where
-  first_or_later_at : (y : X) (ys : List X) (x : X) (k : ℕ) → k < length (y ∷ ys) → get_or (y ∷ ys) k x ≡ x → (x ≡ y) ⊎ Contains ys x
-  first_or_later_at y ys x zero h e = inl (sym e)
-  first_or_later_at y ys x (suc k) h e = inr (k, omega arith, e)
-
   pub first_or_later : (y : X) (ys : List X) (x : X) → Contains (y ∷ ys) x → (x ≡ y) ⊎ Contains ys x
-  first_or_later y ys x c = first_or_later_at y ys x c.0 c.1 c.2
+  first_or_later y ys x c = elim (Contains-append_cases (y ∷ []) ys x c) [
+    | inl i ↦ elim (Contains-push_cases [] y x i) [ inl n ↦ absurd (omega (arith, n.1)) | inr e ↦ inl (sym e) ]
+    | inr i ↦ inr i
+  ]
 
   pub here : (x : X) (xs : List X) → Contains (x ∷ xs) x
   here x xs = Contains-get_or (x ∷ xs) 0 x (omega arith)
@@ -37,11 +38,9 @@ module _ {X : Type 0} where
   ]
 
   pub find_in : (f : X → Bool) (xs : List X) (x : X) → find f xs ≡ Some x → Contains xs x
-  find_in f [] x e = absurd (none-some x e)
-  find_in f (y ∷ ys) x e = elim (cases_Bool (f y)) [
-    | inl t ↦ subst (Contains (y ∷ ys)) (same_Some y x (rw t at e)) (here y ys)
-    | inr u ↦ later y ys x (find_in f ys x (rw u at e))
-  ]
+  find_in f xs x e =
+      let at : slice_get xs (position_or_len f xs) ≡ Some x = sym (find_at f xs) ∙ e in
+      (position_or_len f xs, slice_get_within xs (position_or_len f xs) x at, get_or_from_slice_get xs (position_or_len f xs) x x at)
 
   module _ (R : X → X → Type 0) where
     -- the first element to the later ones, and these among themselves

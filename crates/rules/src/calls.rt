@@ -85,7 +85,7 @@ pub enum Answer {
     // The offer's number, and the lots that closed at once.
     Entered { offer: u32, closed: u32 },
     Withdrawn { lots: u32 },
-    // Closes, voids and lapses.
+    // Closes, voids and lapses: a tuple, as a tick answers them.
     Ticked((u32, u32, u32)),
     Opened(CaseName),
     // Whether the close was annulled, and the votes for and against that.

@@ -7,6 +7,7 @@ pub enum Side {
 }
 
 // A standing offer: the lots still wanted or offered, and when it lapses, if it does before it is withdrawn.
+// A type beside `Entry`: what was asked for stays, and what stands has a number and grows less.
 #[derive(Clone, Copy)]
 pub struct Offer {
     pub number: u32,

@@ -44,6 +44,7 @@ impl Refusal {
     }
 }
 
+// The conversions are by hand, since a derived one has no contract.
 impl From<Fault> for Refusal {
     ghost from_gives = { λ f r. r ≡ MayNotTrade f };
 

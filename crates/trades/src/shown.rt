@@ -5,11 +5,16 @@ ghost use Rattle.trades.specs.Trades.{name, terms};
 use super::trade::{Kind, Trade};
 use std::fmt;
 
+// By hand, since what a derive prints has no contract.
 impl fmt::Display for Kind {
     ghost output = { λ k. Some (name k) };
 
     fn fmt<W: fmt::Write>(&self, f: &mut fmt::Formatter<W>) -> fmt::Result {
-        f.write_str(self.name())
+        f.write_str(match self {
+            Kind::Price => "price",
+            Kind::Rate => "rate",
+            Kind::Interbank => "interbank",
+        })
     }
 }
 

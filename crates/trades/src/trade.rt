@@ -24,7 +24,7 @@ pub struct Trade {
     pub days: u32,
 }
 
-// The figures of a trade as they are written: unlike those of a `Trade`, in range or not.
+// The figures of a trade as they are written. A type beside `Trade`, whose figures have the types that markets and books take: a generic one would have a parameter for each.
 #[derive(Clone, Copy)]
 pub struct Figures {
     pub kind: Kind,

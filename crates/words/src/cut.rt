@@ -108,6 +108,7 @@ pub fn number(word: &[u8]) -> Option<u64>
     if word.is_empty() || word.len() > 18 {
         return None;
     }
+    // a `for`: of a fold, the proof would owe that no sum of digits overflows, before it knows that they are few
     let mut n = 0;
     for b in word {
         if !b.is_ascii_digit() {

@@ -4,6 +4,7 @@ ghost use Rattle.lines.specs.Rules.{two_houses, pair_refused};
 use super::Refusal;
 
 // Two houses that differ: the first, whose line or block it is, and the one that it is on.
+// Calls take two numbers, and no pair: any two may be asked about, and only those that are tested are a `Pair`.
 #[derive(Clone, Copy)]
 pub struct Pair {
     pub granter: u8,
@@ -34,6 +35,6 @@ impl Pair {
         ensures place { result ≡ self.granter * 16 + self.counterparty }
         ensures within { result < 256 }
     {
-        self.granter as usize * 16 + self.counterparty as usize
+        usize::from(self.granter) * 16 + usize::from(self.counterparty)
     }
 }

@@ -4,6 +4,7 @@ ghost use Rattle.lines.specs.Printed.{refusal_text, cause};
 use super::{Fault, Refusal};
 use std::fmt;
 
+// By hand, since what a derive prints has no contract.
 impl fmt::Display for Refusal {
     ghost output = { λ refusal. Some (refusal_text refusal) };
 

@@ -12,7 +12,10 @@ loop-posting-preserved g c =
     let counted : c.if-is_ok.accepted ≡ cond (is_ok c.post.result) (suc c.loop-posting.accepted) c.loop-posting.accepted = grind arith in
     (omega arith, grind arith, rw counted more)
 
-pub returns : goal.returns
-returns g c =
+pub returns-clause-balanced : goal.returns-clause-balanced
+returns-clause-balanced g c =
     let run = rw (take_all c.loop-posting.posting-index c.args.postings.now c.loop-posting-test.false) at c.loop-posting.invariant.2 in
-    record { run = run; balanced = λ clear. always_balanced _ _ _ _ clear run; always = always_balanced; few = omega arith }
+    λ clear. always_balanced _ _ _ _ clear run
+
+pub returns-clause-always : goal.returns-clause-always
+returns-clause-always g c = always_balanced

@@ -1,9 +1,13 @@
-use Rattle.std.proofs.Common.{refl}
-use Rattle.net_sheet.proofs.Figures.{within_none, none_there, none_held}
+use Rattle.std.proofs.Common.{◌+◌, ◌*◌, arith}
+use Rattle.std.proofs.lemmas.Bool.Decides.{nat_tests}
+use Rattle.net_sheet.proofs.Figures.{within_none, none_there}
 use Rattle.net_sheet.proofs.NetSheet.with_places.Goals as goal
 
-pub invariant_of-result : goal.invariant_of-result
-invariant_of-result c = record { wide = refl; long = refl; few = c.requires; lots_fit = within_none _ 128; cash_fit = within_none _ 16 }
+pub invariant_of-result-clause-lots_fit : goal.invariant_of-result-clause-lots_fit
+invariant_of-result-clause-lots_fit c = within_none _ 128
 
-pub returns : goal.returns
-returns c = record { clear = record { lots = none_held 128; cash = none_there 16 }; places = refl }
+pub invariant_of-result-clause-cash_fit : goal.invariant_of-result-clause-cash_fit
+invariant_of-result-clause-cash_fit c = within_none _ 16
+
+pub returns-clause-clear : goal.returns-clause-clear
+returns-clause-clear c = record { lots = λ h p. grind (arith, nat_tests, none_there 128 (h * 8 + p)); cash = none_there 16 }
