@@ -1,8 +1,10 @@
 //! A book that keeps every posting, and adds them up when asked.
 #![tactic(auto)]
 
+ghost use Rattle.std.specs.Prelude.{◌≤◌, length};
 ghost use Rattle.std.specs.List.{AllPass};
 ghost use Rattle.book.specs.Sheet.{acceptable};
+ghost use Rattle.journal.specs.declared.TheConstants.{PLACES};
 
 use arrayvec::ArrayVec;
 use book::Posting;
@@ -18,6 +20,7 @@ const PLACES: usize = 256;
 #[derive(Drop)]
 pub struct Journal {
     postings: ArrayVec<Posting, PLACES>,
+    ghost few: { length postings.items ≤ PLACES },
     ghost sound: { AllPass acceptable postings.items },
 }
 
