@@ -1,13 +1,24 @@
 //! The checks on a trade's figures, and its value.
 ghost use Rattle.std.specs.Prelude.{◌≡◌};
 ghost use Rattle.std.specs.Result.{result_ok};
-ghost use Rattle.trades.specs.Trades.{market, kind, value, flaw, told, checked};
+ghost use Rattle.trades.specs.Trades.{market, name, kind, value, flaw, told, checked};
 
 use super::trade::{Figures, Flaw, Kind, Trade, UnknownMarket};
 use market::{Interbank, Market, Price, Rate, Terms};
 
 // `Kind` is matched on once for each member of its market that is asked of it: a `&dyn Market` may not be handed out, and a `Kind` that is itself a `Market` would need five such matches.
 impl Kind {
+    // The word by which a line of text names the market.
+    pub fn name(self) -> &'static str
+        ensures { result.now ≡ name self }
+    {
+        match self {
+            Kind::Price => "price",
+            Kind::Rate => "rate",
+            Kind::Interbank => "interbank",
+        }
+    }
+
     // Whether the buyer pledges its line on the seller, and whether the seller does its own on the buyer.
     pub fn pledges(self) -> (bool, bool)
         ensures { result ≡ (market self).pledges }

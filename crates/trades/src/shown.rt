@@ -10,11 +10,7 @@ impl fmt::Display for Kind {
     ghost output = { λ k. Some (name k) };
 
     fn fmt<W: fmt::Write>(&self, f: &mut fmt::Formatter<W>) -> fmt::Result {
-        f.write_str(match self {
-            Kind::Price => "price",
-            Kind::Rate => "rate",
-            Kind::Interbank => "interbank",
-        })
+        f.write_str(self.name())
     }
 }
 
