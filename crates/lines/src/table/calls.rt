@@ -1,4 +1,4 @@
-ghost use Rattle.std.specs.Prelude.{◌≡◌, ℕ, ◌+◌, ◌≤◌, true, if◌then◌else◌, Some, None};
+ghost use Rattle.std.specs.Prelude.{◌≡◌, ℕ, ◌+◌, ◌≤◌, true, false, if◌then◌else◌, Some, None};
 ghost use Rattle.lines.specs.Credit.{Clear, set_at, Drawn, Freed};
 ghost use Rattle.lines.specs.Rules.{two_houses, Sound, answered, refusal_number, fault_case, LimitSet, BlockSet, Shown, short, fault, Exact, falls_on, Uses, free_refused, Frees, FreesPair, Restores};
 ghost use Rattle.lines.specs.Of.{credit, Has, Put};
@@ -92,6 +92,17 @@ impl Lines {
         }
     }
 
+    // Sets what is used of a line whose granter pledges it; of another's as much is used as before, and nothing is written.
+    fn draw(&mut self, pledged: bool, granter: u8, counterparty: u8, used: u64)
+        requires room { used ≤ (credit self.old).limit granter counterparty }
+        requires kept { pledged ≡ false → used ≡ (credit self.old).used granter counterparty }
+        ensures { Drawn (credit self.old) (set_at (credit self.old).used granter counterparty used) (credit self.new) }
+    {
+        if pledged {
+            self.set_used(granter, counterparty, used);
+        }
+    }
+
     /// Sets the limit of a line; what is used of it stays.
     pub fn set_limit(&mut self, granter: u8, counterparty: u8, pesos: u64) -> Result<(), Refusal>
         ensures { LimitSet (credit self.old) granter counterparty pesos result (credit self.new) }
@@ -168,12 +179,17 @@ impl Lines {
         ensures { Uses (credit self.old) deal result (credit self.new) }
     {
         self.may_trade(deal)?;
-        let Deal { buyer, seller, .. } = deal;
+        let Deal {
+            pledges,
+            buyer,
+            seller,
+            ..
+        } = deal;
         let (from_buyer, from_seller) = deal.asked();
         let buyer_used = self.stance(buyer, seller).line.used + from_buyer;
         let seller_used = self.stance(seller, buyer).line.used + from_seller;
-        self.set_used(buyer, seller, buyer_used);
-        self.set_used(seller, buyer, seller_used);
+        self.draw(pledges.0, buyer, seller, buyer_used);
+        self.draw(pledges.1, seller, buyer, seller_used);
         Ok(())
     }
 
@@ -208,12 +224,17 @@ impl Lines {
         requires seller { deal.pledges.1 ≡ true → deal.value ≤ (credit self.old).used deal.seller deal.buyer }
         ensures { Freed (credit self.old) (falls_on deal.pledges deal.buyer deal.seller) deal.value (credit self.new) }
     {
-        let Deal { buyer, seller, .. } = deal;
+        let Deal {
+            pledges,
+            buyer,
+            seller,
+            ..
+        } = deal;
         let (from_buyer, from_seller) = deal.asked();
         let buyer_left = self.stance(buyer, seller).line.used - from_buyer;
         let seller_left = self.stance(seller, buyer).line.used - from_seller;
-        self.set_used(buyer, seller, buyer_left);
-        self.set_used(seller, buyer, seller_left);
+        self.draw(pledges.0, buyer, seller, buyer_left);
+        self.draw(pledges.1, seller, buyer, seller_left);
     }
 
     /// Frees the value of each pledging side's line on the other: what `use_lines` took, this gives back.
