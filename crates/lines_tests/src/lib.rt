@@ -247,6 +247,12 @@ mod tests {
             ..buyer_16
         };
         assert_eq!(rt; lines.use_lines(worthless), Ok(()));
+        let most = Fault::Short {
+            granter: 3,
+            counterparty: 7,
+            pesos: 18_446_744_073_660_426_615,
+        };
+        assert_eq!(rt; lines.may_trade(worth(u64::MAX)), Err(most));
         Ok(())
     }
 
