@@ -11,14 +11,14 @@ use Rattle.journal.specs.Meaning.{added_up, journal_sheet}
 use Rattle.journal.specs.declared.Journal.{Journal}
 
 -- where no posting adds anything, neither do all of them
-added_up_none : (f : Posting → ℤ) (xs : List Posting) → All (λ x. f x ≡ pos 0) xs → added_up f xs ≡ pos 0
+pub added_up_none : (f : Posting → ℤ) (xs : List Posting) → All (λ x. f x ≡ pos 0) xs → added_up f xs ≡ pos 0
 added_up_none f [] none = refl
 added_up_none f (x ∷ xs) none = rw (none 0 x (omega arith)) (added_up_none f xs (λ k d lt. none (suc k) d (omega arith)))
 
-lots_beyond : (h p : ℕ) → (16 ≤ h) ⊎ (8 ≤ p) → (x : Posting) → acceptable x ≡ true → lots_added x h p ≡ pos 0
+pub lots_beyond : (h p : ℕ) → (16 ≤ h) ⊎ (8 ≤ p) → (x : Posting) → acceptable x ≡ true → lots_added x h p ≡ pos 0
 lots_beyond h p far x e = let ok = bounds x e in grind (arith, ints, nat_tests)
 
-cash_beyond : (h : ℕ) → 16 ≤ h → (x : Posting) → acceptable x ≡ true → cash_added x h ≡ pos 0
+pub cash_beyond : (h : ℕ) → 16 ≤ h → (x : Posting) → acceptable x ≡ true → cash_added x h ≡ pos 0
 cash_beyond h far x e = let ok = bounds x e in grind (arith, ints, nat_tests)
 
 pub zero_outside : (j : Journal) → ZeroOutside (journal_sheet j)

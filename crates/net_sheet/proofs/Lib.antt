@@ -1,1 +1,1 @@
-mod Figures
+pub mod Figures

@@ -52,17 +52,17 @@ module _ (n : Session) (s : State) where
   abbrev NewFair : State → Type 0
   NewFair t = All (Fair m s.days) (drop (length s.closes) t.closes)
 
-  grown_new : (t : State) → Grown m s t → NewFair t
+  pub grown_new : (t : State) → Grown m s t → NewFair t
   grown_new t g = All-same (Fair m s.days) _ g.more (ap (drop (length s.closes)) g.closes ∙ drop-append_seam s.closes g.more) g.fair
 
   -- nothing is new where there are as many closes
   none_new : (t : State) → length t.closes ≡ length s.closes → NewFair t
   none_new t e = All-same (Fair m s.days) _ [] (drop_all (length s.closes) t.closes (omega (arith, e))) (All-nil (Fair m s.days))
 
-  grown_none : (t : State) → t.days ≡ s.days → t.closes ≡ s.closes → Grown m s t
+  pub grown_none : (t : State) → t.days ≡ s.days → t.closes ≡ s.closes → Grown m s t
   grown_none t d c = record { days = d; more = []; closes = c ∙ sym (append-nil s.closes); fair = All-nil (Fair m s.days) }
 
-  grown_struck : (t : State) (p : Pair) (price : ℕ) → Crossing m p.sell.quote price p.buy.quote → Grown m s t → Grown m s (struck n t p price)
+  pub grown_struck : (t : State) (p : Pair) (price : ℕ) → Crossing m p.sell.quote price p.buy.quote → Grown m s t → Grown m s (struck n t p price)
   grown_struck t p price x g = record {
     days = g.days;
     more = g.more ++ (close_at n t p price ∷ []);

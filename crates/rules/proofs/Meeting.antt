@@ -119,7 +119,7 @@ module _ (m : Meaning) where
   never_both Sell o p (inr x) (inr y) = omega (arith, x.1, y.1)
 
 module _ (m : Meaning) (e : Offer) (os : List Offer) (d : NumbersDiffer os) where
-  met_meets : Meets m e os (met m e os)
+  pub met_meets : Meets m e os (met m e os)
   met_meets =
       let kept = filter (meets m e) os in
       let Apart = λ (o p : Offer). (o.side ≡ p.side) × Differ o p in

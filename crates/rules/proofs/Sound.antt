@@ -44,14 +44,14 @@ map_differ f same os differ i j d h k e =
     differ i j d h below (sym (number i (omega arith)) ∙ e ∙ number j below)
 
 module _ (accepted : ℕ) where
-  kept_sound : (f : Offer → Bool) (os : List Offer) → BoardSound accepted os → BoardSound accepted (filter f os)
+  pub kept_sound : (f : Offer → Bool) (os : List Offer) → BoardSound accepted os → BoardSound accepted (filter f os)
   kept_sound f os b = record {
     lots = All-filter f (λ o. 0 < o.lots) os b.lots;
     given = All-filter f (Given accepted) os b.given;
     differ = AllPairs-filter Differ f os b.differ;
   }
 
-  reduced_sound : (number lots : ℕ) (os : List Offer) → BoardSound accepted os → BoardSound accepted (reduced number lots os)
+  pub reduced_sound : (number lots : ℕ) (os : List Offer) → BoardSound accepted os → BoardSound accepted (reduced number lots os)
   reduced_sound number lots os b =
       let f : Offer → Offer = λ o. cond (eqb o.number number) (fewer lots o) o in
       let same : (o : Offer) → (f o).number ≡ o.number = λ o. same_number (eqb o.number number) lots o in
@@ -63,7 +63,7 @@ module _ (accepted : ℕ) where
       }
 
 -- where an offer is looked for by its number
-offer_found : (os : List Offer) → NumbersDiffer os → (o : Offer) → Contains os o → offer_of o.number os ≡ o
+pub offer_found : (os : List Offer) → NumbersDiffer os → (o : Offer) → Contains os o → offer_of o.number os ≡ o
 offer_found [] d o i = absurd (none_in o i)
 offer_found (p ∷ os) d o i = elim (first_or_later p os o i) [
   | inl e ↦ rw (eq-eqb p.number o.number (ap (λ (x : Offer). x.number) (sym e))) (sym e)
@@ -72,20 +72,20 @@ offer_found (p ∷ os) d o i = elim (first_or_later p os o i) [
       ∙ offer_found os (pairs_rest Differ p os d) o j
 ]
 
-offer_before : (k : ℕ) (os more : List Offer) → 0 < (offer_of k os).lots → offer_of k (os ++ more) ≡ offer_of k os
+pub offer_before : (k : ℕ) (os more : List Offer) → 0 < (offer_of k os).lots → offer_of k (os ++ more) ≡ offer_of k os
 offer_before k [] more some = absurd (omega arith)
 offer_before k (o ∷ os) more some = elim (cases_Bool (eqb o.number k)) [
   | inl is ↦ rw is
   | inr other ↦ rw other (offer_before k os more (rw other at some))
 ]
 
-offer_last : (os : List Offer) (o : Offer) → All (λ p. p.number ≡ o.number → ⊥) os → offer_of o.number (os ++ (o ∷ [])) ≡ o
+pub offer_last : (os : List Offer) (o : Offer) → All (λ p. p.number ≡ o.number → ⊥) os → offer_of o.number (os ++ (o ∷ [])) ≡ o
 offer_last [] o apart = rw (eq-eqb o.number o.number refl)
 offer_last (p ∷ os) o apart =
     passed_over o.number true p (os ++ (o ∷ [])) (ne_eqb p.number o.number (All-head (λ q. q.number ≡ o.number → ⊥) p os apart))
     ∙ offer_last os o (All-tail (λ q. q.number ≡ o.number → ⊥) p os apart)
 
-offer_kept : (f : Offer → Bool) (k : ℕ) (os : List Offer) → 0 < (offer_of k os).lots → f (offer_of k os) ≡ true → offer_of k (filter f os) ≡ offer_of k os
+pub offer_kept : (f : Offer → Bool) (k : ℕ) (os : List Offer) → 0 < (offer_of k os).lots → f (offer_of k os) ≡ true → offer_of k (filter f os) ≡ offer_of k os
 offer_kept f k [] some e = refl
 offer_kept f k (o ∷ os) some e = elim (cases_Bool (eqb o.number k)) [
   | inl is ↦ let keeps : f o ≡ true = rw is at e in rw (keeps, is)
@@ -99,7 +99,7 @@ later_sound accepted os b = record {
   differ = b.differ;
 }
 
-board_more : (accepted : ℕ) (os : List Offer) (o : Offer) → 0 < o.lots → o.number ≡ accepted + 1 → BoardSound accepted os → BoardSound (accepted + 1) (os ++ (o ∷ []))
+pub board_more : (accepted : ℕ) (os : List Offer) (o : Offer) → 0 < o.lots → o.number ≡ accepted + 1 → BoardSound accepted os → BoardSound (accepted + 1) (os ++ (o ∷ []))
 board_more accepted os o some is b = record {
   lots = All-push (λ p. 0 < p.lots) os o b.lots some;
   given = All-push (Given (accepted + 1)) os o (later_sound accepted os b).given (omega (arith, is), omega (arith, is));
